@@ -24,6 +24,7 @@ _da_words() {
         commit) echo BLOCK ;;
         prove) echo SQUARE START COUNT ;;
         follow) echo WANTED ANSWERS ;;
+        attend) echo WANTED TALK ;;
         root) echo HEADER ROOT ;;
         net) echo HEADER MESSAGES SCRIPT ;;
         show) echo FILE ;;
@@ -84,7 +85,7 @@ _da_files() {
 _da() {
     local word=${COMP_WORDS[COMP_CWORD]}
     local before=${COMP_WORDS[COMP_CWORD - 1]}
-    local commands="build header sample namespace hold verify compact check repair gather light watch wanted cells blobs transactions find commit prove follow root net show json import export demo help version"
+    local commands="build header sample namespace hold verify compact check repair gather light watch wanted cells blobs transactions find commit prove follow attend root net show json import export demo help version"
     local words
     COMPREPLY=()
     # Behind a sign like > stands a file.

@@ -540,6 +540,7 @@ FORMS = {
     "commit": {"BLOCK": BLOCK_OR_LIST},
     "prove": {"SQUARE": SQUARE, "REQUESTS": Form(1, True, "Q")},
     "follow": {"WANTED": Form(0, True, "P"), "ANSWERS": Form(1, True, "HN", "H")},
+    "attend": {"WANTED": Form(0, True, "P"), "TALK": Form(1, True, "HN", "H")},
     "check": {"HEADER": HEADER, "MESSAGES": MESSAGES},
     "repair": {"HEADER": HEADER, "MESSAGES": MESSAGES},
     "gather": {"HEADER": HEADER, "TALK": MESSAGES},

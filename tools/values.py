@@ -415,7 +415,7 @@ def wide_rows(values, k):
     values.same(row, sorted(pieces(values.bytes_of(row))), sorted(grid.message(*cell) for cell in cells))
     blob, absent = (grid.answer(make.name(end)) for end in ("0102", "0103"))
     values.file(f"rows/verify/an-absence-of-width-{k}/answer", absent)
-    values.file(f"rows/follow/a-height-of-width-{k}/both", blob + absent)
+    values.file(f"rows/files/answers-{k}", blob + absent)
     proof = grid.commitment(1, 2)
     values.file(f"rows/prove/a-range-of-width-{k}/stdout", proof)
     values.file(f"rows/verify/a-commitment-proof-of-width-{k}/proof", proof)

@@ -1,4 +1,4 @@
-"""What `light_node.py` and `full_node.py` share: peers behind Unix sockets, and a `da` that stays, to which their frames are forwarded.
+"""What the nodes in Python share: peers behind Unix sockets, and a `da` that stays, to which their frames are forwarded.
 
 Each frame is read whole before a byte of it is forwarded, and what can't be a right answer ends its peer alone. So a peer that stops
 within a frame, or sends one that would hide those of others, holds up nobody.
@@ -24,6 +24,29 @@ def most_bytes(header):
         k = int.from_bytes(file.read(HEAD + 2)[HEAD:], "big")
     path = 90 * k.bit_length()
     return 518 + path, 8 + k * (606 + path)
+
+
+def most_of_answer(header):
+    """So of a namespace answer, under the header that a frame is."""
+    k = int.from_bytes(header[HEAD : HEAD + 2], "big")
+    return 31 + k * (8 + 512 * k + 180 * k.bit_length())
+
+
+def is_answer(payload):
+    """Whether a payload is a namespace answer in the grammar (docs/FORMATS.md, "Payloads"), whatever it says."""
+    count, at = int.from_bytes(payload[29:31], "big"), 31
+    for _ in range(count):
+        tag, shares = payload[at + 2 : at + 3], 0
+        if tag == b"\0":
+            shares = int.from_bytes(payload[at + 5 : at + 7], "big")
+            at += 7 + 512 * shares
+        elif tag == b"\1":
+            at += 95
+        nodes = int.from_bytes(payload[at : at + 1], "big")
+        if not tag or tag > b"\1" or shares > 512 or nodes > 20:
+            return False
+        at += 1 + 90 * nodes
+    return count <= 512 and at == len(payload)
 
 
 async def frame(reader, most=None):

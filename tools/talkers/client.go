@@ -2,11 +2,14 @@
 package main
 
 import (
+	"bufio"
 	"bytes"
 	"encoding/binary"
 	"io"
 	"os"
 	"os/exec"
+	"strconv"
+	"strings"
 	"syscall"
 	"time"
 )
@@ -42,6 +45,23 @@ func frame(from io.Reader) []byte {
 	return all
 }
 
+// The lines of a namespace: the first says how many follow.
+func lines(from *bufio.Reader) []byte {
+	all, err := from.ReadBytes('\n')
+	must(err)
+	words := strings.Fields(string(all))
+	if words[len(words)-2] == "blobs" {
+		count, err := strconv.Atoi(words[len(words)-1])
+		must(err)
+		for ; count > 0; count-- {
+			line, err := from.ReadBytes('\n')
+			must(err)
+			all = append(all, line...)
+		}
+	}
+	return all
+}
+
 func ends(with bool) {
 	if !with {
 		os.Exit(1)
@@ -68,6 +88,23 @@ func main() {
 		}
 		must(stdin.Close())
 		behind, err := io.ReadAll(stdout)
+		must(err)
+		ends(len(want) == 0 && len(behind) == 0)
+		must(child.Wait())
+	case "attend":
+		want, from := read(told), bufio.NewReader(stdout)
+		for len(asked) > 0 {
+			size := head + int(binary.BigEndian.Uint32(asked[1:]))
+			say(stdin, asked[:size])
+			if asked[0] == 'N' {
+				some := lines(from)
+				ends(bytes.HasPrefix(want, some))
+				want = want[len(some):]
+			}
+			asked = asked[size:]
+		}
+		must(stdin.Close())
+		behind, err := io.ReadAll(from)
 		must(err)
 		ends(len(want) == 0 && len(behind) == 0)
 		must(child.Wait())

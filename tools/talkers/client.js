@@ -42,6 +42,41 @@ if (mode === 'ask' || mode === 'die') {
     else child.stdin.end();
   }, (left) => { right = right && left === 0 && place === told.length; });
   child.stdin.write(asked.subarray(0, REQUEST));
+} else if (mode === 'attend') {
+  const told = readFileSync(toldName);
+  let at = 0, text = '', whole = 0;
+
+  // How many bytes of the text in front are the lines of a namespace, whose first says how many follow; none where they aren't all there.
+  const lines = () => {
+    let end = text.indexOf('\n') + 1;
+    const words = text.slice(0, end - 1).split(' ');
+    for (let left = words.at(-2) === 'blobs' ? Number(words.at(-1)) : 0; end && left; left--) end = text.indexOf('\n', end) + 1;
+    return end;
+  };
+
+  // Writes frames up to the next answer, whose lines it then waits for.
+  const next = () => {
+    let kind = '';
+    while (at < asked.length && kind !== 'N') {
+      const size = HEAD + asked.readUInt32BE(at + 1);
+      kind = String.fromCharCode(asked[at]);
+      child.stdin.write(asked.subarray(at, at + size));
+      at += size;
+    }
+    if (kind !== 'N') child.stdin.end();
+  };
+
+  child.stdout.on('data', (piece) => {
+    text += piece.toString('latin1');
+    const end = lines();
+    if (!end) return;
+    right = right && end === text.length && text === told.toString('latin1', whole, whole + end);
+    whole += end;
+    text = '';
+    next();
+  });
+  child.stdout.on('end', () => { right = right && !text && whole === told.length; });
+  next();
 } else if (mode === 'pour' || mode === 'feed') {
   const parts = [];
   child.stdout.on('data', (piece) => parts.push(piece));

@@ -47,6 +47,24 @@ async def feed(child, frames, told):
     return content == told and await child.wait() == 0
 
 
+async def lines(reader):
+    """The lines of a namespace: the first says how many follow."""
+    first = await reader.readline()
+    *_, word, count = first.split()
+    return first + b"".join([await reader.readline() for _ in range(int(count) if word == b"blobs" else 0)])
+
+
+async def attend(child, frames, told):
+    content = b""
+    while frames:
+        size = HEAD + int.from_bytes(frames[1:HEAD], "big")
+        await say(child.stdin, frames[:size])
+        content += await lines(child.stdout) if frames[:1] == b"N" else b""
+        frames = frames[size:]
+    child.stdin.close()
+    return content + await child.stdout.read() == told and await child.wait() == 0
+
+
 async def die(child, asked, told):
     await say(child.stdin, asked[:REQUEST])
     await frame(child.stdout)
@@ -70,7 +88,7 @@ async def main(mode, asked, told, words):
     if mode != "leave":
         with open(told, "rb") as file:
             told = file.read()
-    return await {"ask": ask, "pour": pour, "feed": feed, "die": die, "leave": leave}[mode](child, asked, told)
+    return await {"ask": ask, "pour": pour, "feed": feed, "attend": attend, "die": die, "leave": leave}[mode](child, asked, told)
 
 
 sys.exit(0 if asyncio.run(main(*sys.argv[1:4], sys.argv[4:])) else 1)
