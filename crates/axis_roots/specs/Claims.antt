@@ -40,8 +40,8 @@ abbrev pub positions_of : ClaimParts → List ℕ
 positions_of claim = map (λ m. position claim.axis m.cell) claim.cells
 
 -- the shares of its cells
-abbrev pub shares_of : ClaimParts → List Share
-shares_of claim = map (λ m. m.share) claim.cells
+abbrev pub claim_shares : ClaimParts → List Share
+claim_shares claim = map (λ m. m.share) claim.cells
 
 -- whether a sample is of a cell on the accused axis, whichever axis it is proved along
 abbrev pub is_on : ClaimParts → Message → Bool
@@ -56,7 +56,7 @@ has_shape k claim =
 -- a codeword that has the shares of the claim's cells at their positions; there is exactly one
 pub record IsThrough (k : ℕ) (claim : ClaimParts) (word : List Share) : Type 0 where
   pub codeword : IsCodeword k word
-  pub entries : HasEntries (positions_of claim) (shares_of claim) word
+  pub entries : HasEntries (positions_of claim) (claim_shares claim) word
 
 -- a claim has its shape, and the codeword through its cells, taken as the accused axis, has another strict root than
 -- this one, or none

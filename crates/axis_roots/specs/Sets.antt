@@ -35,14 +35,14 @@ along_in axis [] = []
 along_in axis (m ∷ cells) = if is_along axis m then m ∷ along_in axis cells else along_in axis cells
 
 -- the leaf namespaces of samples, in a square of width k
-abbrev pub names_in : ℕ → List Message → List Namespace
-names_in k cells = map (λ m. leaf_namespace k m.cell m.share) cells
+abbrev pub sample_names : ℕ → List Message → List Namespace
+sample_names k cells = map (λ m. leaf_namespace k m.cell m.share) cells
 
 -- what a set shows of an axis of a square of width k: the shares of all samples along it, at their places, under the leaf
 -- namespaces of their cells
 abbrev pub set_of : ℕ → Axis → List Message → List Shown
 set_of k axis cells =
-    leaves_at (map (λ m. position axis m.cell) (along_in axis cells)) (names_in k (along_in axis cells))
+    leaves_at (map (λ m. position axis m.cell) (along_in axis cells)) (sample_names k (along_in axis cells))
     (map (λ m. m.share) (along_in axis cells))
 
 -- the tree that a set opens

@@ -6,7 +6,7 @@ use Rattle.leopard_code.specs.Codewords.{IsCodeword, HasEntries}
 use Rattle.axis_roots.specs.declared.message.messages.Message.{Message}
 use Rattle.axis_roots.specs.declared.message.proved.Proved.{Proved}
 use Rattle.axis_roots.specs.Proved.{kept_message}
-use Rattle.axis_roots.specs.Claims.{ClaimParts, positions_of, shares_of, IsThrough}
+use Rattle.axis_roots.specs.Claims.{ClaimParts, positions_of, claim_shares, IsThrough}
 
 -- one more value is written at its place
 pub written_next : {A B : Type 0} (f : A → B) (xs : List A) (ys : List B) (i : ℕ) (x : A) (y d : B) → i < length xs → i < length ys → x ≡ get_or xs i x → y ≡ f x
@@ -23,8 +23,8 @@ map-kept f (c ∷ cells) = ap (λ (rest : List _). f (kept_message c) ∷ rest) 
 
 -- a line that was rebuilt from the positions and the shares of a claim is through it
 pub line_through : (k code : ℕ) (claim : ClaimParts) (known : List ℕ) (given word : List Share) → code ≡ k
-    → known ≡ positions_of claim → given ≡ shares_of claim → IsCodeword code word → HasEntries known given word → IsThrough k claim word
+    → known ≡ positions_of claim → given ≡ claim_shares claim → IsCodeword code word → HasEntries known given word → IsThrough k claim word
 line_through k code claim known given word same places copies codeword entries = record {
   codeword = subst (λ (n : ℕ). IsCodeword n word) same codeword;
-  entries = subst (λ (ps : List ℕ). HasEntries ps (shares_of claim) word) places (subst (λ (ss : List Share). HasEntries known ss word) copies entries);
+  entries = subst (λ (ps : List ℕ). HasEntries ps (claim_shares claim) word) places (subst (λ (ss : List Share). HasEntries known ss word) copies entries);
 }

@@ -8,11 +8,11 @@ use Rattle.namespace_id.specs.Digests.{no_digest}
 use Rattle.nmt_proofs.specs.Openings.{begun}
 use Rattle.nmt_proofs.specs.Merging.{leaves_of, merged_nodes}
 use Rattle.befp_verify.specs.declared.compacting.Placed.{Placed}
-use Rattle.befp_verify.specs.Placed.{placed_of, placed, HasNodes}
+use Rattle.befp_verify.specs.Placed.{placed_of, placed_branches, HasNodes}
 
 -- how many of them begin before a place
 abbrev pub before : ℕ → List Placed → ℕ
-before m ps = begun m (leaves_of (placed ps))
+before m ps = begun m (leaves_of (placed_branches ps))
 
 -- the count from one on: that behind it and one more, if it begins before
 before_next : (m : ℕ) (ps : List Placed) (i : ℕ) (d : Placed) → i < length ps
@@ -49,14 +49,14 @@ before_past m ps i low high so_far =
 -- ---- the nodes of an interval
 
 -- that holds none
-pub nodes_none : (d st t : ℕ) (g : Digest) (ps : List Placed) → length ps ≡ 0 → merged_nodes d st t g (placed ps) ≡ g ∷ []
+pub nodes_none : (d st t : ℕ) (g : Digest) (ps : List Placed) → length ps ≡ 0 → merged_nodes d st t g (placed_branches ps) ≡ g ∷ []
 unfolding merged_nodes
 nodes_none zero st t g [] h = refl
 nodes_none (suc d) st t g [] h = refl
 nodes_none d st t g (p ∷ ps) h = absurd (omega arith)
 
 -- of one place
-pub nodes_one : (d st t : ℕ) (g : Digest) (ps : List Placed) → 0 < length ps → d ≡ 0 → merged_nodes d st t g (placed ps) ≡ []
+pub nodes_one : (d st t : ℕ) (g : Digest) (ps : List Placed) → 0 < length ps → d ≡ 0 → merged_nodes d st t g (placed_branches ps) ≡ []
 unfolding merged_nodes
 nodes_one d st t g [] h e = absurd (omega arith)
 nodes_one zero st t g (p ∷ ps) h e = refl
@@ -65,7 +65,7 @@ nodes_one (suc d) st t g (p ∷ ps) h e = absurd (omega arith)
 -- of several, by its halves
 pub nodes_halved : (d st t m k : ℕ) (g a b : Digest) (o : Placed) (ps l r : List Placed) → 0 < length ps → (d ≡ 0 → ⊥) → m ≡ st + 2 ^ (d - 1) → k ≡ before m ps → l ≡ take k ps → r ≡ drop k ps
     → a ≡ get_or (get_or ps 0 o).opening.path t no_digest → b ≡ get_or (get_or ps 0 o).opening.path (t + (d - 1)) no_digest
-    → merged_nodes d st t g (placed ps) ≡ merged_nodes (d - 1) st t a (placed l) ++ merged_nodes (d - 1) m (t + 1) b (placed r)
+    → merged_nodes d st t g (placed_branches ps) ≡ merged_nodes (d - 1) st t a (placed_branches l) ++ merged_nodes (d - 1) m (t + 1) b (placed_branches r)
 unfolding merged_nodes
 nodes_halved d st t m k g a b o [] l r h several em ek el er ea eb = absurd (omega arith)
 nodes_halved zero st t m k g a b o (p ∷ ps) l r h several em ek el er ea eb = absurd (several refl)
@@ -75,10 +75,10 @@ nodes_halved (suc d) st t m k g a b o (p ∷ ps) l r h several em ek el er ea eb
     let xs : List Placed = p ∷ ps in
     let middle : st + 2 ^ d ≡ m = ap (λ (n : ℕ). st + 2 ^ n) low ∙ sym em in
     let count : before (st + 2 ^ d) xs ≡ k = ap (λ (n : ℕ). before n xs) middle ∙ sym ek in
-    let left : take (before (st + 2 ^ d) xs) (placed xs) ≡ placed l = ap (λ (n : ℕ). take n (placed xs)) count ∙ take-map placed_of k xs ∙ ap placed (sym el) in
-    let right : drop (before (st + 2 ^ d) xs) (placed xs) ≡ placed r = ap (λ (n : ℕ). drop n (placed xs)) count ∙ drop-map placed_of k xs ∙ ap placed (sym er) in
+    let left : take (before (st + 2 ^ d) xs) (placed_branches xs) ≡ placed_branches l = ap (λ (n : ℕ). take n (placed_branches xs)) count ∙ take-map placed_of k xs ∙ ap placed_branches (sym el) in
+    let right : drop (before (st + 2 ^ d) xs) (placed_branches xs) ≡ placed_branches r = ap (λ (n : ℕ). drop n (placed_branches xs)) count ∙ drop-map placed_of k xs ∙ ap placed_branches (sym er) in
     (λ i. merged_nodes d st t (get_or p.opening.path t no_digest) (left i) ++ merged_nodes d (middle i) (more i) (get_or p.opening.path (t + d) no_digest) (right i))
-    ∙ (λ i. merged_nodes (low i) st t (sym ea i) (placed l) ++ merged_nodes (low i) m (t + 1) ((ap (λ (n : ℕ). get_or p.opening.path (t + n) no_digest) low ∙ sym eb) i) (placed r))
+    ∙ (λ i. merged_nodes (low i) st t (sym ea i) (placed_branches l) ++ merged_nodes (low i) m (t + 1) ((ap (λ (n : ℕ). get_or p.opening.path (t + n) no_digest) low ∙ sym eb) i) (placed_branches r))
 
 -- ---- how many nodes are there
 

@@ -18,7 +18,7 @@ use Rattle.axis_roots.specs.Claims.{ClaimParts, IsClaim, has_shape, has_set_shap
 use Rattle.befp_verify.specs.declared.verifying.FraudRefusal.{FraudRefusal}
 use Rattle.befp_verify.specs.declared.verifying.FraudRefusal.TheVariants.{Shape, Cell, Set, AxisMatches}
 use Rattle.befp_verify.specs.Lines.{IsRootThrough}
-use Rattle.befp_verify.specs.Refusals.{is_shaped, first_unproved, nodes_refusal, unopened, HasCause}
+use Rattle.befp_verify.specs.Refusals.{is_shaped, first_unproved, nodes_refusal, unopened, HasFraudCause}
 
 -- ---- the set
 
@@ -58,7 +58,7 @@ accepted header claim root width is shape proved opened line other =
 not_refused : (header : Roots) (claim : ClaimParts)
     → (AreProved header claim claim.cells → first_unproved header claim ≡ None)
     → (Accepts header claim → FitsRoot header.k claim (claimed_root header claim) → ⊥)
-    → (why : FraudRefusal) → Accepts header claim → HasCause header claim (Some why) → ⊥
+    → (why : FraudRefusal) → Accepts header claim → HasFraudCause header claim (Some why) → ⊥
 not_refused header claim none apart Shape accepts shape =
     true≢false (sym (and_from (has_shape header.k claim) (has_set_shape header.k claim) accepts.bad.shape accepts.set_shape) ∙ shape)
 not_refused header claim none apart (Cell i why) accepts cell = none-some _ (sym (none accepts.proved) ∙ cell.1)
@@ -74,7 +74,7 @@ same_set : (why other : OpenRefusal) → ◌≡◌ {A = Option OpenRefusal} (Som
 same_set why other e = ap (λ (o : Option OpenRefusal). option_map_or (λ p. Set p) o Shape) e
 
 -- two causes of refusals are one
-one_refusal : (header : Roots) (claim : ClaimParts) (a b : FraudRefusal) → HasCause header claim (Some a) → HasCause header claim (Some b) → a ≡ b
+one_refusal : (header : Roots) (claim : ClaimParts) (a b : FraudRefusal) → HasFraudCause header claim (Some a) → HasFraudCause header claim (Some b) → a ≡ b
 one_refusal header claim Shape Shape x y = refl
 one_refusal header claim Shape (Cell i why) x y = absurd (true≢false (sym y.0 ∙ x))
 one_refusal header claim Shape (Set why) x y = absurd (true≢false (sym y.0 ∙ x))
@@ -97,7 +97,7 @@ one_refusal header claim AxisMatches AxisMatches x y = refl
 pub one_cause : (header : Roots) (claim : ClaimParts)
     → (AreProved header claim claim.cells → first_unproved header claim ≡ None)
     → (Accepts header claim → FitsRoot header.k claim (claimed_root header claim) → ⊥)
-    → (a b : Option FraudRefusal) → HasCause header claim a → HasCause header claim b → a ≡ b
+    → (a b : Option FraudRefusal) → HasFraudCause header claim a → HasFraudCause header claim b → a ≡ b
 one_cause header claim none apart None None x y = refl
 one_cause header claim none apart None (Some b) x y = absurd (not_refused header claim none apart b x y)
 one_cause header claim none apart (Some a) None x y = absurd (not_refused header claim none apart a y x)

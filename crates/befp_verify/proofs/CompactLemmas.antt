@@ -17,15 +17,15 @@ use Rattle.namespace_id.proofs.PowerLemmas.{double_halvings}
 use Rattle.nmt_tree.specs.Roots.{halvings}
 use Rattle.nmt_proofs.specs.Openings.{one_leaf, leaves_at, Opens}
 use Rattle.nmt_proofs.specs.Places.{AreAscending}
-use Rattle.nmt_proofs.specs.Merging.{merged_nodes, HoldsAlong, AreAlike, IsBranch, AreBranches, places_of, names_of, shares_of}
+use Rattle.nmt_proofs.specs.Merging.{merged_nodes, HoldsAlong, BranchesAgree, IsBranch, AreBranches, places_of_branches, names_of_branches, shares_of_branches}
 use Rattle.nmt_proofs.proofs.Agreement.MergeLemmas.{merged_opens}
 use Rattle.leopard_code.specs.Codewords.{HasEntries}
 use Rattle.data_header.specs.Headers.{Roots, root_of}
 use Rattle.axis_roots.specs.declared.message.messages.Message.{Message}
 use Rattle.axis_roots.specs.Messages.{IsMessage, position, index}
 use Rattle.axis_roots.specs.Openings.{IsProved}
-use Rattle.axis_roots.specs.Sets.{is_one_axis, is_along, along_in, names_in, set_of, is_bare}
-use Rattle.axis_roots.specs.Claims.{ClaimParts, is_on, positions_of, shares_of as shares_in, has_shape, ShowsBad, claimed_root, AreProved, Accepts}
+use Rattle.axis_roots.specs.Sets.{is_one_axis, is_along, along_in, sample_names, set_of, is_bare}
+use Rattle.axis_roots.specs.Claims.{ClaimParts, is_on, positions_of, claim_shares as shares_in, has_shape, ShowsBad, claimed_root, AreProved, Accepts}
 use Rattle.axis_roots.proofs.Messages.ClaimLemmas.{Shape, shape_of}
 use Rattle.axis_roots.proofs.Messages.ProofLemmas.{plain_accepted}
 use Rattle.axis_roots.proofs.Messages.SetLemmas.{set_ascending, some_along, each_by}
@@ -52,7 +52,7 @@ along-bare axis (m ∷ cells) =
 -- so a set shows the same
 set_of-bare : (k : ℕ) (axis : Axis) (cells : List Message) → set_of k axis (bare_all axis cells) ≡ set_of k axis cells
 set_of-bare k axis cells =
-    ap (λ (ms : List Message). leaves_at (map (λ m. position axis m.cell) ms) (names_in k ms) (map (λ m. m.share) ms)) (along-bare axis cells)
+    ap (λ (ms : List Message). leaves_at (map (λ m. position axis m.cell) ms) (sample_names k ms) (map (λ m. m.share) ms)) (along-bare axis cells)
     ∙ (λ i. leaves_at (maps_once (λ m. position axis m.cell) (bare axis) (along_in axis cells) i) (maps_once (λ m. leaf_namespace k m.cell m.share) (bare axis) (along_in axis cells) i)
     (maps_once (λ m. m.share) (bare axis) (along_in axis cells) i))
 
@@ -171,19 +171,19 @@ are_branches header axis i (m ∷ cells) proved on =
 
 -- their places ascend
 pub branch_places : (k : ℕ) (axis : Axis) (cells : List Message) → is_width k ≡ true → AllByRecursion (λ m. is_in_square k m.cell ≡ true) cells
-    → holds_along nat_lt (map (λ m. position axis m.cell) cells) ≡ true → AreAscending 0 (2 ^ halvings (2 * k)) (places_of (branches_of k axis cells))
+    → holds_along nat_lt (map (λ m. position axis m.cell) cells) ≡ true → AreAscending 0 (2 ^ halvings (2 * k)) (places_of_branches (branches_of k axis cells))
 branch_places k axis cells width inside up =
-    let places : map (λ m. position axis m.cell) (along_in axis (bare_all axis cells)) ≡ places_of (branches_of k axis cells) =
+    let places : map (λ m. position axis m.cell) (along_in axis (bare_all axis cells)) ≡ places_of_branches (branches_of k axis cells) =
     ap (map (λ m. position axis m.cell)) (along-bare axis cells) ∙ maps_once (λ m. position axis m.cell) (bare axis) (along_in axis cells)
     ∙ sym (maps_once (λ b. b.pos) (branch_of k axis) (along_in axis cells)) in
     let rising : holds_along nat_lt (map (λ m. position axis m.cell) (bare_all axis cells)) ≡ true =
     ap (holds_along nat_lt) (maps_once (λ m. position axis m.cell) (bare axis) cells) ∙ up in
-    subst (λ (n : ℕ). AreAscending 0 n (places_of (branches_of k axis cells))) (sym (double_halvings k width))
+    subst (λ (n : ℕ). AreAscending 0 n (places_of_branches (branches_of k axis cells))) (sym (double_halvings k width))
     (subst (AreAscending 0 (2 * k)) places (set_ascending k axis (bare_all axis cells) rising (all_bare k axis cells inside)))
 
 -- what is known of a claim's openings along its axis
 pub claim_branches : (header : Roots) (claim : ClaimParts) → is_width header.k ≡ true → Shape header.k claim → AllByRecursion (IsProved header) claim.cells
-    → HoldsAlong (AreAlike (halvings (2 * header.k))) (branches_of header.k claim.axis claim.cells)
+    → HoldsAlong (BranchesAgree (halvings (2 * header.k))) (branches_of header.k claim.axis claim.cells)
     → AreBranches (halvings (2 * header.k)) (claimed_root header claim) (branches_of header.k claim.axis claim.cells)
 claim_branches header claim width shape proved alike = record {
   places = branch_places header.k claim.axis claim.cells width (each_by (IsProved header) (λ m. is_in_square header.k m.cell ≡ true) claim.cells (λ m p. p.inside) proved) shape.rising;
@@ -195,7 +195,7 @@ claim_branches header claim width shape proved alike = record {
 
 -- they show what the set shows
 branches_show : (k : ℕ) (axis : Axis) (cells : List Message)
-    → leaves_at (places_of (branches_of k axis cells)) (names_of (branches_of k axis cells)) (shares_of (branches_of k axis cells)) ≡ set_of k axis cells
+    → leaves_at (places_of_branches (branches_of k axis cells)) (names_of_branches (branches_of k axis cells)) (shares_of_branches (branches_of k axis cells)) ≡ set_of k axis cells
 branches_show k axis cells =
     (λ i. leaves_at (maps_once (λ b. b.pos) (branch_of k axis) (along_in axis cells) i) (maps_once (λ b. b.name) (branch_of k axis) (along_in axis cells) i)
     (maps_once (λ b. b.share) (branch_of k axis) (along_in axis cells) i))
@@ -207,7 +207,7 @@ some_branches k axis cells any = omega (arith, length-map (along_in axis cells) 
 -- an accepted claim without a set is accepted with one too, where none of its neighbors along the axis name a collision
 pub compacted_accepts : (header : Roots) (claim : ClaimParts) (beside : Digest) (nodes : List Digest) → is_width header.k ≡ true → Accepts header claim → claim.set ≡ None
     → list_any (is_along claim.axis) claim.cells ≡ true
-    → HoldsAlong (AreAlike (halvings (2 * header.k))) (branches_of header.k claim.axis claim.cells)
+    → HoldsAlong (BranchesAgree (halvings (2 * header.k))) (branches_of header.k claim.axis claim.cells)
     → nodes ≡ merged_nodes (halvings (2 * header.k)) 0 0 beside (branches_of header.k claim.axis claim.cells) → AreDigests nodes
     → Accepts header (with_set claim nodes)
 compacted_accepts header claim beside nodes width accepts plain any alike is digests =
@@ -220,7 +220,7 @@ compacted_accepts header claim beside nodes width accepts plain any alike is dig
     let merged = merged_opens (halvings (2 * k)) (claimed_root header claim) beside (branches_of k axis claim.cells) (some_branches k axis claim.cells any) branches in
     let opens : Opens (halvings (2 * k)) (set_of k axis (bare_all axis claim.cells)) nodes (claimed_root header claim) =
     subst (λ (ss : List _). Opens (halvings (2 * k)) ss nodes (claimed_root header claim)) (branches_show k axis claim.cells ∙ sym (set_of-bare k axis claim.cells))
-    (subst (λ (ns : List Digest). Opens (halvings (2 * k)) (leaves_at (places_of (branches_of k axis claim.cells)) (names_of (branches_of k axis claim.cells)) (shares_of (branches_of k axis claim.cells))) ns (claimed_root header claim)) (sym is) merged) in
+    (subst (λ (ns : List Digest). Opens (halvings (2 * k)) (leaves_at (places_of_branches (branches_of k axis claim.cells)) (names_of_branches (branches_of k axis claim.cells)) (shares_of_branches (branches_of k axis claim.cells))) ns (claimed_root header claim)) (sym is) merged) in
     record {
       set_shape = and_from (list_any (is_along axis) (bare_all axis claim.cells)) (list_all (is_bare k axis) (bare_all axis claim.cells)) (any_bare axis claim.cells ∙ any) (all_bare k axis claim.cells inside);
       proved = proved-bare header claim nodes claim.cells proved;

@@ -12,7 +12,7 @@ use Rattle.nmt_tree.specs.Roots.{halvings}
 use Rattle.nmt_proofs.specs.Openings.{opened, one_leaf}
 use Rattle.nmt_proofs.specs.Clashes.{clash_at}
 use Rattle.nmt_proofs.specs.Places.{AreAscending}
-use Rattle.nmt_proofs.specs.Merging.{Branch, branch_tree, IsBranch, places_of}
+use Rattle.nmt_proofs.specs.Merging.{Branch, branch_tree, IsBranch, places_of_branches}
 use Rattle.nmt_proofs.proofs.Agreement.TwinLemmas.{length-nodes}
 use Rattle.hash_clash.specs.Collisions.{Strings}
 use Rattle.data_header.specs.Headers.{Roots}
@@ -26,12 +26,12 @@ use Rattle.axis_roots.proofs.Messages.ClaimLemmas.{shape_of}
 use Rattle.axis_roots.proofs.Messages.ProofLemmas.{plain_accepted}
 use Rattle.axis_roots.proofs.Messages.SetLemmas.{each_by}
 use Rattle.befp_verify.specs.declared.compacting.Placed.{Placed}
-use Rattle.befp_verify.specs.Placed.{placed, HasNodes, AreUnderOne, NamesTwoOf}
-use Rattle.befp_verify.specs.Compacting.{is_compact, branch_of, branches_of, NamesTwo}
+use Rattle.befp_verify.specs.Placed.{placed_branches, HasNodes, AreUnderOne, NamesTwoOf}
+use Rattle.befp_verify.specs.Compacting.{is_compacted, branch_of, branches_of, NamesTwo}
 use Rattle.befp_verify.proofs.CompactLemmas.{one_axis, are_branches, branch_places}
 
 -- a claim that isn't compact has no set, and a cell along its axis
-pub wide_claim : (claim : ClaimParts) → is_compact claim ≡ false → (claim.set ≡ None) × (list_any (is_along claim.axis) claim.cells ≡ true)
+pub wide_claim : (claim : ClaimParts) → is_compacted claim ≡ false → (claim.set ≡ None) × (list_any (is_along claim.axis) claim.cells ≡ true)
 wide_claim claim e = parts claim.set (list_any (is_along claim.axis) claim.cells) e
   where
     parts : (set : Option (List Digest)) (b : Bool) → cond (is_some set) true (cond b false true) ≡ false → (set ≡ None) × (b ≡ true)
@@ -40,19 +40,19 @@ wide_claim claim e = parts claim.set (list_any (is_along claim.axis) claim.cells
     parts (Some nodes) b e = absurd (let x : true ≡ false = e in cc)
 
 -- its cells are proved, and so are in the square
-pub wide_proved : (header : Roots) (claim : ClaimParts) → Accepts header claim → is_compact claim ≡ false → AllByRecursion (IsProved header) claim.cells × ShowsBad header.k claim (claimed_root header claim)
+pub wide_proved : (header : Roots) (claim : ClaimParts) → Accepts header claim → is_compacted claim ≡ false → AllByRecursion (IsProved header) claim.cells × ShowsBad header.k claim (claimed_root header claim)
 wide_proved header claim accepts wide = (plain_accepted header claim (wide_claim claim wide).0).1 accepts
 
-pub wide_inside : (header : Roots) (claim : ClaimParts) → Accepts header claim → is_compact claim ≡ false → AllByRecursion (λ m. is_in_square header.k m.cell ≡ true) claim.cells
+pub wide_inside : (header : Roots) (claim : ClaimParts) → Accepts header claim → is_compacted claim ≡ false → AllByRecursion (λ m. is_in_square header.k m.cell ≡ true) claim.cells
 wide_inside header claim accepts wide = each_by (IsProved header) (λ m. is_in_square header.k m.cell ≡ true) claim.cells (λ m p. p.inside) (wide_proved header claim accepts wide).0
 
 -- ascending places are below the end
-below_end : (low high : ℕ) (ps : List Placed) → AreAscending low high (places_of (placed ps)) → AllByRecursion (λ p. p.pos < high) ps
+below_end : (low high : ℕ) (ps : List Placed) → AreAscending low high (places_of_branches (placed_branches ps)) → AllByRecursion (λ p. p.pos < high) ps
 below_end low high [] h = tt
 below_end low high (p ∷ ps) h = (h.1, below_end (p.pos + 1) high ps h.2)
 
 -- a branch has a node a halving
-nodes_many : (d : ℕ) (root : Digest) (ps : List Placed) → AllByRecursion (IsBranch d root) (placed ps) → AllByRecursion (HasNodes d) ps
+nodes_many : (d : ℕ) (root : Digest) (ps : List Placed) → AllByRecursion (IsBranch d root) (placed_branches ps) → AllByRecursion (HasNodes d) ps
 nodes_many d root [] h = tt
 nodes_many d root (p ∷ ps) h =
     (omega (arith, length-nodes d p.pos p.opening.name p.opening.share p.opening.path h.0.opening.count), nodes_many d root ps h.1)
@@ -60,21 +60,21 @@ nodes_many d root (p ∷ ps) h =
 -- what the steps of making a set want to know of the openings
 pub record Ready (k : ℕ) (ps : List Placed) : Type 0 where
   pub places : AllByRecursion (λ p. p.pos < 2 * k) ps
-  pub open_all : AreUnderOne (halvings (2 * k)) (placed ps)
+  pub open_all : AreUnderOne (halvings (2 * k)) (placed_branches ps)
   pub paths : AllByRecursion (HasNodes (halvings (2 * k))) ps
 
-pub ready : (header : Roots) (claim : ClaimParts) (ps : List Placed) → is_width header.k ≡ true → Accepts header claim → is_compact claim ≡ false
-    → placed ps ≡ branches_of header.k claim.axis claim.cells → Ready header.k ps
+pub ready : (header : Roots) (claim : ClaimParts) (ps : List Placed) → is_width header.k ≡ true → Accepts header claim → is_compacted claim ≡ false
+    → placed_branches ps ≡ branches_of header.k claim.axis claim.cells → Ready header.k ps
 ready header claim ps width accepts wide is =
     let k : ℕ = header.k in
     let both = wide_proved header claim accepts wide in
     let shape = shape_of k claim both.1.shape in
     let root : Digest = claimed_root header claim in
-    let branches : AllByRecursion (IsBranch (halvings (2 * k)) root) (placed ps) =
+    let branches : AllByRecursion (IsBranch (halvings (2 * k)) root) (placed_branches ps) =
     subst (AllByRecursion (IsBranch (halvings (2 * k)) root)) (sym is) (are_branches header claim.axis claim.index claim.cells both.0 shape.on) in
-    let places : AreAscending 0 (2 * k) (places_of (placed ps)) =
-    subst (λ (n : ℕ). AreAscending 0 n (places_of (placed ps))) (sym (sym (double_halvings k width)))
-    (subst (λ (bs : List Branch). AreAscending 0 (2 ^ halvings (2 * k)) (places_of bs)) (sym is)
+    let places : AreAscending 0 (2 * k) (places_of_branches (placed_branches ps)) =
+    subst (λ (n : ℕ). AreAscending 0 n (places_of_branches (placed_branches ps))) (sym (sym (double_halvings k width)))
+    (subst (λ (bs : List Branch). AreAscending 0 (2 ^ halvings (2 * k)) (places_of_branches bs)) (sym is)
     (branch_places k claim.axis claim.cells width (wide_inside header claim accepts wide) shape.rising)) in
     record {
       places = below_end 0 (2 * k) ps places;

@@ -30,8 +30,8 @@ abbrev pub with_set : ClaimParts → List Digest → ClaimParts
 with_set claim nodes = record { axis = claim.axis; index = claim.index; cells = bare_all claim.axis claim.cells; set = Some nodes }
 
 -- whether a claim is left as it is: it has a set, or no cell along the axis
-abbrev pub is_compact : ClaimParts → Bool
-is_compact claim = if is_some claim.set then true else (if list_any (is_along claim.axis) claim.cells then false else true)
+abbrev pub is_compacted : ClaimParts → Bool
+is_compacted claim = if is_some claim.set then true else (if list_any (is_along claim.axis) claim.cells then false else true)
 
 -- the opening that a sample makes at its place on the axis, in a square of width k
 abbrev pub branch_of : ℕ → Axis → Message → Branch
@@ -54,6 +54,6 @@ pub record NamesTwo (k : ℕ) (claim : ClaimParts) (clash : Strings) : Type 0 wh
 -- collision that two of its cells along the axis name
 abbrev pub IsCompacted : Roots → ClaimParts → Compacted → Type 0
 IsCompacted header claim (Claim made) =
-    ((is_compact claim ≡ true) × (made ≡ claim))
-    ⊎ ((is_compact claim ≡ false) × ((nodes : List Digest) × (made ≡ with_set claim nodes)) × Accepts header made)
-IsCompacted header claim (Clash clash) = (is_compact claim ≡ false) × NamesTwo header.k claim clash
+    ((is_compacted claim ≡ true) × (made ≡ claim))
+    ⊎ ((is_compacted claim ≡ false) × ((nodes : List Digest) × (made ≡ with_set claim nodes)) × Accepts header made)
+IsCompacted header claim (Clash clash) = (is_compacted claim ≡ false) × NamesTwo header.k claim clash

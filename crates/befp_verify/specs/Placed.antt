@@ -12,8 +12,8 @@ abbrev pub placed_of : Placed → Branch
 placed_of p = record { pos = p.pos; name = p.opening.name; share = p.opening.share; nodes = p.opening.path }
 
 -- openings at their places
-abbrev pub placed : List Placed → List Branch
-placed ps = map placed_of ps
+abbrev pub placed_branches : List Placed → List Branch
+placed_branches ps = map placed_of ps
 
 -- an opening has so many nodes at least
 abbrev pub HasNodes : ℕ → Placed → Type 0

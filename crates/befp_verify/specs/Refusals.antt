@@ -57,15 +57,15 @@ unopened header claim = nodes_refusal header claim claim.set
 
 -- the cause of each answer to a claim, none for one that is accepted, by the checks in their order: its shape, its cells,
 -- its set, and whether the axis fits the header's root
-abbrev pub HasCause : Roots → ClaimParts → Option FraudRefusal → Type 0
-HasCause header claim None = Accepts header claim
-HasCause header claim (Some Shape) = is_shaped header.k claim ≡ false
-HasCause header claim (Some (Cell i why)) =
+abbrev pub HasFraudCause : Roots → ClaimParts → Option FraudRefusal → Type 0
+HasFraudCause header claim None = Accepts header claim
+HasFraudCause header claim (Some Shape) = is_shaped header.k claim ≡ false
+HasFraudCause header claim (Some (Cell i why)) =
     (is_shaped header.k claim ≡ true) × (first_unproved header claim ≡ Some (i, why))
-HasCause header claim (Some (Set why)) =
+HasFraudCause header claim (Some (Set why)) =
     (is_shaped header.k claim ≡ true) × (first_unproved header claim ≡ None)
     × (unopened header claim ≡ Some why)
-HasCause header claim (Some AxisMatches) =
+HasFraudCause header claim (Some AxisMatches) =
     (is_shaped header.k claim ≡ true) × (first_unproved header claim ≡ None)
     × (unopened header claim ≡ None) × FitsRoot header.k claim (claimed_root header claim)
 

@@ -5,7 +5,7 @@ use Rattle.namespace_id.specs.declared.shares.Share.{Share}
 use Rattle.namespace_id.specs.Cells.{is_width}
 
 -- buffers for one axis of a square of width k: k positions with their shares, 2k shares, 2k namespaces
-pub record IsRoom (k code : ℕ) (known : List ℕ) (shares all : List Share) (names : List Namespace) : Type 0 where
+pub record IsRoomForAxis (k code : ℕ) (known : List ℕ) (shares all : List Share) (names : List Namespace) : Type 0 where
   pub width : is_width k ≡ true
   pub coded : code ≡ k
   pub positions : length known ≡ k

@@ -7,13 +7,13 @@ ghost use Rattle.std.specs.List.{AllByRecursion, list_any};
 ghost use Rattle.namespace_id.specs.Cells.{is_width, is_in_square};
 ghost use Rattle.namespace_id.specs.Sizes.{most_depth, most_leaves};
 ghost use Rattle.nmt_proofs.specs.Openings.{begun};
-ghost use Rattle.nmt_proofs.specs.Merging.{leaves_of, merged_nodes, HoldsAlong, AreAlike};
+ghost use Rattle.nmt_proofs.specs.Merging.{leaves_of, merged_nodes, HoldsAlong, BranchesAgree};
 ghost use Rattle.nmt_tree.specs.Roots.{is_leaf_count, halvings};
 ghost use Rattle.axis_roots.specs.Sets.{is_along, along_in};
 ghost use Rattle.data_header.specs.Headers.{Roots};
 ghost use Rattle.axis_roots.specs.Claims.{ClaimParts, Accepts};
-ghost use Rattle.befp_verify.specs.Compacting.{bare, bare_all, is_compact, branch_of, branches_of, IsCompacted};
-ghost use Rattle.befp_verify.specs.Placed.{placed_of, placed, HasNodes, AreUnderOne, NamesTwoOf};
+ghost use Rattle.befp_verify.specs.Compacting.{bare, bare_all, is_compacted, branch_of, branches_of, IsCompacted};
+ghost use Rattle.befp_verify.specs.Placed.{placed_of, placed_branches, HasNodes, AreUnderOne, NamesTwoOf};
 
 use crate::Upheld;
 use crate::verifying::some_along;
@@ -53,7 +53,7 @@ fn same_path(path: &Path) -> Path
 
 /// How many openings are of places before one.
 fn count_before(branches: &[Placed], middle: u16) -> usize
-    ensures count { result ≡ begun middle (leaves_of (placed branches.now)) }
+    ensures count { result ≡ begun middle (leaves_of (placed_branches branches.now)) }
     ensures bound { result ≤ length branches.now }
 {
     for (i, branch) in branches.iter().enumerate() {
@@ -79,7 +79,7 @@ fn merge(
     requires turned { turns ≤ most_depth }
     requires paths { AllByRecursion (HasNodes (turns + depth)) branches.now }
     ensures { OnOk result (nodes.new.items ≡
-        nodes.old.items ++ merged_nodes depth start turns beside (placed branches.now)) }
+        nodes.old.items ++ merged_nodes depth start turns beside (placed_branches branches.now)) }
 {
     if branches.is_empty() {
         let Ok(()) = nodes.push(beside) else {
@@ -202,7 +202,7 @@ fn placed_messages(
 ) -> Result<Vec<Placed>, NoMemory>
     requires width { IsTrue (is_width k) }
     requires inside { AllByRecursion (λ m. is_in_square k m.cell ≡ true) cells.now }
-    ensures { IfOk result (λ made. placed made.items ≡ branches_of k axis cells.now) }
+    ensures { IfOk result (λ made. placed_branches made.items ≡ branches_of k axis cells.now) }
 {
     let mut made = Vec::with_capacity(alloc, cells.len())?;
     for i in 0..cells.len() {
@@ -218,7 +218,7 @@ fn placed_messages(
 
 /// Whether a claim is left as it is: it has a set, or no cell along the axis.
 fn is_compact(claim: &FraudClaim) -> bool
-    ensures { result ≡ is_compact claim.now }
+    ensures { result ≡ is_compacted claim.now }
 {
     if claim.set.is_some() {
         return true;
@@ -230,9 +230,9 @@ fn is_compact(claim: &FraudClaim) -> bool
 fn first_clash(n: u16, branches: &[Placed]) -> Option<Clash>
     requires leaves { IsTrue (is_leaf_count n) }
     requires places { AllByRecursion (λ p. p.pos < n) branches.now }
-    requires open { AreUnderOne (halvings n) (placed branches.now) }
-    ensures { MatchOption result (HoldsAlong (AreAlike (halvings n)) (placed branches.now))
-        (NamesTwoOf (halvings n) (placed branches.now)) }
+    requires open { AreUnderOne (halvings n) (placed_branches branches.now) }
+    ensures { MatchOption result (HoldsAlong (BranchesAgree (halvings n)) (placed_branches branches.now))
+        (NamesTwoOf (halvings n) (placed_branches branches.now)) }
 {
     for i in 1..branches.len() {
         let before = &branches[i - 1];
@@ -254,7 +254,7 @@ fn no_node() -> Digest {
 /// along the accused axis are put together to one, or two of them name a collision.
 fn make_set(alloc: Global, header: &Header, claim: &FraudClaim) -> Result<Compacted, NoMemory>
     requires accepted { Accepts header.now claim.now }
-    requires wide { is_compact claim.now ≡ false }
+    requires wide { is_compacted claim.now ≡ false }
     ensures { IfOk result (IsCompacted header.now claim.now) }
 {
     let n = 2 * header.k;

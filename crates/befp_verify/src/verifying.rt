@@ -8,10 +8,10 @@ ghost use Rattle.namespace_id.specs.Cells.{is_width, is_in_square};
 ghost use Rattle.namespace_id.specs.Lists.{holds_along};
 ghost use Rattle.axis_roots.specs.declared.message.messages.CheckRefusal.{CheckRefusal as Why};
 ghost use Rattle.axis_roots.specs.Messages.{position};
-ghost use Rattle.axis_roots.specs.Sets.{is_along, along_in, names_in, is_bare, fits_set};
+ghost use Rattle.axis_roots.specs.Sets.{is_along, along_in, sample_names, is_bare, fits_set};
 ghost use Rattle.axis_roots.specs.Claims.{ClaimParts, is_on, has_shape, has_set_shape, is_set_cell, claimed_root, FitsRoot, Accepts, IsFalseClaim};
 ghost use Rattle.befp_verify.specs.declared.verifying.FraudRefusal.TheVariants as refusal;
-ghost use Rattle.befp_verify.specs.Refusals.{is_shaped, cell_refusal, refused_from, first_unproved, nodes_refusal, unopened, HasCause, why_of};
+ghost use Rattle.befp_verify.specs.Refusals.{is_shaped, cell_refusal, refused_from, first_unproved, nodes_refusal, unopened, HasFraudCause, why_of};
 ghost use Rattle.befp_verify.specs.Lines.{IsRootThrough};
 
 use crate::view::view_law;
@@ -69,13 +69,13 @@ pub struct VerifyRoom {
 
 impl Model for VerifyRoom {
     ghost use Rattle.std.specs.Prelude.{ℕ};
-    ghost use Rattle.befp_verify.specs.Rooms.{IsRoom};
+    ghost use Rattle.befp_verify.specs.Rooms.{IsRoomForAxis};
 
     ghost Value = { ℕ };
 
     ghost view = { λ r. r.k };
 
-    ghost invariant = { λ r. IsRoom r.k r.code r.known.items r.shares.items r.all.items r.names.items };
+    ghost invariant = { λ r. IsRoomForAxis r.k r.code r.known.items r.shares.items r.all.items r.names.items };
 }
 
 impl VerifyRoom {
@@ -238,7 +238,7 @@ fn gather_along(
     requires shares { length cells.now ≤ length shares.old }
     ensures count { result ≡ length (along_in axis cells.now) }
     ensures known { take result known.new ≡ map (λ m. position axis m.cell) (along_in axis cells.now) }
-    ensures names { take result names.new ≡ names_in k (along_in axis cells.now) }
+    ensures names { take result names.new ≡ sample_names k (along_in axis cells.now) }
     ensures shares { take result shares.new ≡ map (λ m. m.share) (along_in axis cells.now) }
 {
     let mut count = 0;
@@ -339,7 +339,7 @@ fn root_through(room: &mut VerifyRoom, claim: &ClaimView<'_>) -> Option<Digest>
 /// The four checks in their order.
 fn cause_of(room: &mut VerifyRoom, header: &Header, claim: &ClaimView<'_>) -> Option<FraudRefusal>
     requires room { room.old ≡ header.now.k }
-    ensures cause { HasCause header.now claim.now result }
+    ensures cause { HasFraudCause header.now claim.now result }
     ensures room { room.new ≡ room.old }
 {
     view_law(claim);
@@ -365,7 +365,7 @@ fn cause_of(room: &mut VerifyRoom, header: &Header, claim: &ClaimView<'_>) -> Op
 /// No two answers to a claim have their cause at once. It changes nothing.
 fn cause_law(header: &Header)
     ensures { (claim : ClaimParts) (a b : Option FraudRefusal) →
-        HasCause header.now claim a → HasCause header.now claim b → a ≡ b }
+        HasFraudCause header.now claim a → HasFraudCause header.now claim b → a ≡ b }
 {
     let _k = header.k;
     claim_laws();
@@ -381,7 +381,7 @@ fn cause_law(header: &Header)
 pub fn judge(room: &mut VerifyRoom, header: &Header, claim: &ClaimView<'_>) -> Option<FraudRefusal>
     requires room { room.old ≡ header.now.k }
     ensures accepts { (result ≡ None) ↔ Accepts header.now claim.now }
-    ensures cause { HasCause header.now claim.now result }
+    ensures cause { HasFraudCause header.now claim.now result }
     ensures room { room.new ≡ room.old }
 {
     cause_law(header);
@@ -424,7 +424,7 @@ pub fn verify(
     ensures returned { IfErr result (λ refused. refused.claim ≡ claim) }
 
     // All of these at once.
-    ensures cause { HasCause header.now claim (why_of result) }
+    ensures cause { HasFraudCause header.now claim (why_of result) }
 
     // A claim that is accepted under the header of a square has a sample, or a set, that names a collision
     // with it.

@@ -11,7 +11,7 @@ use Rattle.share_split.specs.Joined.{padding_share}
 use Rattle.share_split.specs.BlobLaws.{BlobSharesAreCounted}
 use Rattle.square_layout.specs.Blocks.{BlockParts, IsSquare}
 use Rattle.square_layout.specs.Refusals.{layout_refusal}
-use Rattle.square_layout.specs.Layout.{in_order, share_count_of, start_after, end_of, compact_end, laid, width_for, square_of}
+use Rattle.square_layout.specs.Layout.{in_order, share_count_of, start_after, end_of, compact_end, laid, width_for, block_square}
 use Rattle.nmt_proofs.proofs.Agreement.MadeLemmas.{and_true}
 use Rattle.blob_commit.specs.Proofs.{is_range}
 
@@ -23,7 +23,7 @@ ends_in n at shares own e count some =
     omega (arith, fits, length-drop at shares, some)
 
 -- the layout of a block fits into its square
-layout_fits : (block : BlockParts) → IsSquare (square_of block) → length (laid block) ≤ width_for block * width_for block
+layout_fits : (block : BlockParts) → IsSquare (block_square block) → length (laid block) ≤ width_for block * width_for block
 layout_fits block whole =
     let k : ℕ = width_for block in
     let behind : ℕ = k * k - length (laid block) in
@@ -46,7 +46,7 @@ module _ (counted : BlobSharesAreCounted)
       (stands block before after blob e) (counted blob.namespace blob.signer blob.bytes) (some_shares blob)
 
   -- the range of a blob is one of which a proof is made
-  pub blob_range : ((block : BlockParts) → layout_refusal block ≡ None → IsSquare (square_of block))
+  pub blob_range : ((block : BlockParts) → layout_refusal block ≡ None → IsSquare (block_square block))
       → ((end : ℕ) (blob : NamedBytes) → start_after end blob % subtree_width_of (share_count_of blob) ≡ 0)
       → (block : BlockParts) (before after : List NamedBytes) (blob : NamedBytes) → layout_refusal block ≡ None
       → in_order block.blobs ≡ before ++ blob ∷ after
@@ -61,7 +61,7 @@ module _ (counted : BlobSharesAreCounted)
 
   -- and the square's shares in it are the blob's
   pub blob_shares_in : (block : BlockParts) (before after : List NamedBytes) (blob : NamedBytes) → in_order block.blobs ≡ before ++ blob ∷ after
-      → take (share_count_of blob) (drop (start_after (end_of (compact_end block) before) blob) (square_of block).shares) ≡ blob_shares_of blob.namespace blob.signer blob.bytes
+      → take (share_count_of blob) (drop (start_after (end_of (compact_end block) before) blob) (block_square block).shares) ≡ blob_shares_of blob.namespace blob.signer blob.bytes
   blob_shares_in block before after blob e =
       let start : ℕ = start_after (end_of (compact_end block) before) blob in
       let count : ℕ = share_count_of blob in

@@ -34,7 +34,7 @@ use Rattle.blob_commit.specs.Bounds.{most_halvings}
 use Rattle.blob_commit.specs.Cuts.{cut_by, cut, levels_of}
 use Rattle.blob_commit.specs.Commitments.{subtree_roots, root_of_digests}
 use Rattle.blob_commit.specs.Proofs.{RowParts, CommitParts, IsRow, IsCommit, CommitHolds, RowsLead, RowsOpen, fits_rows, is_range, part_of_row, row_sizes, shown_in, subtrees_of}
-use Rattle.blob_commit.specs.Places.{AxisText, RowsText, NamesClash, IsOwnCommit, row_tree}
+use Rattle.blob_commit.specs.Places.{AxisText, RowsText, PlacesNameClash, IsOwnCommit, row_tree}
 use Rattle.blob_commit.proofs.WidthLemmas.{width_count, width_divides, square_bound}
 use Rattle.blob_commit.proofs.CutLemmas.{total, total-cut, total-of, levels_le}
 use Rattle.blob_commit.proofs.RowCutLemmas.{cut_zero, cut_parts, aligned-cut, roots-append, mod_row, mod_more, as_multiple, none_fits}
@@ -83,11 +83,11 @@ next_row at k z some some_k le ek =
 
 -- a collision of the first row, and one of another
 names_head : (S : SquareShares) (k levels index at left : ℕ) (row : RowParts) (rows : List RowParts)
-    → NamesClash (AxisText k Row index row.root row.up (row_tree k levels at left row)) S → NamesClash (RowsText k levels index at left (row ∷ rows)) S
+    → PlacesNameClash (AxisText k Row index row.root row.up (row_tree k levels at left row)) S → PlacesNameClash (RowsText k levels index at left (row ∷ rows)) S
 names_head S k levels index at left row rows (place, a, b, here, there, clash) = (place, a, b, inl here, there, clash)
 
 names_tail : (S : SquareShares) (k levels index at left : ℕ) (row : RowParts) (rows : List RowParts)
-    → NamesClash (RowsText k levels (suc index) (at + part_of_row k at left) (left - part_of_row k at left) rows) S → NamesClash (RowsText k levels index at left (row ∷ rows)) S
+    → PlacesNameClash (RowsText k levels (suc index) (at + part_of_row k at left) (left - part_of_row k at left) rows) S → PlacesNameClash (RowsText k levels index at left (row ∷ rows)) S
 names_tail S k levels index at left row rows (place, a, b, here, there, clash) = (place, a, b, inr here, there, clash)
 
 -- ---- rows
@@ -104,7 +104,7 @@ abbrev pub RowsOwn : Roots → SquareShares → ℕ → ℕ → List RowParts �
 RowsOwn header S k l rows index at left =
     k % 2 ^ l ≡ 0 → at + left ≤ k * k → (0 < left → (at % 2 ^ l ≡ 0) × (index ≡ at / k)) → fits_rows k (suc l) at left rows ≡ true
     → RowsLead (data_root_of header) k index rows → RowsOpen k (suc l) at left rows
-    → (subtrees_of rows ≡ subtree_roots (cut_by (suc l) left) (drop at S.shares)) ⊎ NamesClash (RowsText k (suc l) index at left rows) S
+    → (subtrees_of rows ≡ subtree_roots (cut_by (suc l) left) (drop at S.shares)) ⊎ PlacesNameClash (RowsText k (suc l) index at left rows) S
 
 none_left : (l left : ℕ) (shares : List Share) → left ≡ 0 → [] ≡ subtree_roots (cut_by (suc l) left) shares
 unfolding subtree_roots
@@ -208,7 +208,7 @@ range_parts k start count h =
 
 -- the width that a proof's first row leads to
 first_width : (header : Roots) (S : SquareShares) (k levels index at left : ℕ) (rows : List RowParts) → IsHeaderOf header S → AllByRecursion IsRow rows
-    → fits_rows k levels at left rows ≡ true → 0 < left → RowsLead (data_root_of header) k index rows → (k ≡ S.k) ⊎ NamesClash (RowsText k levels index at left rows) S
+    → fits_rows k levels at left rows ≡ true → 0 < left → RowsLead (data_root_of header) k index rows → (k ≡ S.k) ⊎ PlacesNameClash (RowsText k levels index at left rows) S
 first_width header S k levels index at left [] own sized fits some lead = absurd (no_rows k levels at left fits some)
 first_width header S k levels index at left (row ∷ rows) own sized fits some lead =
     elim (root_own header k Row index row.root row.up (header_whole header S own) lead.0 sized.0.root sized.0.up) [

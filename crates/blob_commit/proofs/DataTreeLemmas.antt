@@ -15,7 +15,7 @@ use Rattle.nmt_proofs.specs.Clashes.{IsClash}
 use Rattle.nmt_proofs.proofs.Parts.ListLemmas.{each-take, each-drop}
 use Rattle.nmt_proofs.proofs.Parts.DigestLemmas.{append_parts, string-sha256, same_digest}
 use Rattle.data_header.specs.DataRoots.{leaf_hash, inner_hash, merkle_root, led}
-use Rattle.blob_commit.specs.DataTrees.{Plain, known, ending, fork, hash_of, text_of, text_at, climbed, full}
+use Rattle.blob_commit.specs.DataTrees.{Plain, known, ending, fork, hash_of, hashed_text, plain_text_at, climbed, full}
 use Rattle.blob_commit.proofs.RowCutLemmas.{add_times}
 
 -- the hashes and digests in a tree have their lengths
@@ -39,8 +39,8 @@ pub record Clashes (p q : Plain) : Type 0 where
   pub turns : List Bool
   pub left : List ℕ
   pub right : List ℕ
-  pub left_at : text_at turns p ≡ Some left
-  pub right_at : text_at turns q ≡ Some right
+  pub left_at : plain_text_at turns p ≡ Some left
+  pub right_at : plain_text_at turns q ≡ Some right
   pub clash : IsClash left right
 
 -- the hash of a sized tree is one
@@ -65,7 +65,7 @@ equal_or a b h g e = elim (cases_Bool (bytes_eq a b)) [
 ]
 
 -- the collision of two roots
-here : (p q : Plain) (a b : List ℕ) → text_of p ≡ Some a → text_of q ≡ Some b → IsClash a b → Clashes p q
+here : (p q : Plain) (a b : List ℕ) → hashed_text p ≡ Some a → hashed_text q ≡ Some b → IsClash a b → Clashes p q
 here p q a b e f clash = record { turns = []; left = a; right = b; left_at = e; right_at = f; clash = clash }
 
 -- strings with different first bytes are no equal strings

@@ -20,7 +20,7 @@ use Rattle.data_header.specs.DataRoots.{OpensRoot}
 use Rattle.blob_commit.specs.Bounds.{most_subtrees}
 use Rattle.blob_commit.specs.Cuts.{levels_of}
 use Rattle.blob_commit.specs.Proofs.{RowParts, part_of_row, row_sizes, is_range, fits_rows, RowsLead, RowsOpen, subtrees_of}
-use Rattle.blob_commit.specs.Making.{IsRowTree, RowHolds, RowsHold, AddsRow, AddsRows}
+use Rattle.blob_commit.specs.Making.{IsHeaderRowTree, RowHolds, RowsHold, AddsRow, AddsRows}
 use Rattle.blob_commit.proofs.FitLemmas.{fits-parts, range_subtrees}
 use Rattle.blob_commit.proofs.CommitOwnLemmas.{min_cases, next_row}
 use Rattle.blob_commit.proofs.WalkLemmas.{fits-more}
@@ -118,7 +118,7 @@ some_before f None y e = absurd cc
 some_before f (Some x) y e = (x, refl)
 
 -- a tree of a row isn't empty
-pub row_tree-filled : (header : Roots) (row : ℕ) (tree : StoredTree) → IsRowTree header row tree → (leaves : List Digest) × (tree.leaves ≡ Some leaves)
+pub row_tree-filled : (header : Roots) (row : ℕ) (tree : StoredTree) → IsHeaderRowTree header row tree → (leaves : List Digest) × (tree.leaves ≡ Some leaves)
 row_tree-filled header row tree h = some_before (λ (l : List Digest). span l 0 (halvings (2 * header.k))) tree.leaves (root_of header Row row) h.root
 
 -- ---- a whole proof

@@ -9,7 +9,7 @@ use Rattle.namespace_id.specs.declared.digests.Digest.{Digest}
 use Rattle.namespace_id.specs.Digests.{no_digest}
 use Rattle.data_header.specs.Headers.{Roots, AreRoots, root_of}
 use Rattle.data_header.specs.DataRoots.{root_halvings, root_place}
-use Rattle.blob_commit.specs.DataTrees.{full, text_at, turns_to}
+use Rattle.blob_commit.specs.DataTrees.{full, plain_text_at, turns_to}
 use Rattle.blob_commit.specs.Places.{turns_for}
 use Rattle.blob_commit.proofs.HeaderLemmas.{power_width, place-lt, root-at}
 
@@ -19,7 +19,7 @@ over_digest digest = 0 ∷ digest.0
 
 -- at the end of the turns to a place stands the leaf over the digest of this place
 pub leaf_at : (depth : ℕ) (digests : List Digest) (place : ℕ) → length digests ≡ 2 ^ depth → place < 2 ^ depth
-    → text_at (turns_to depth place) (full depth digests) ≡ Some (over_digest (get_or digests place no_digest))
+    → plain_text_at (turns_to depth place) (full depth digests) ≡ Some (over_digest (get_or digests place no_digest))
 unfolding turns_to full
 leaf_at zero [] place count lt = absurd (omega (arith, count))
 leaf_at zero (digest ∷ digests) place count lt =
@@ -30,14 +30,14 @@ leaf_at (suc d) digests place count lt =
     elim (cases_lt place (2 ^ d)) [
       | inl low ↦
           let test : nat_lt place (2 ^ d) ≡ true = grind (arith, nat_tests) in
-          ap (λ (b : Bool). text_at (cond b (false ∷ turns_to d place) (true ∷ turns_to d (place - 2 ^ d))) (full (suc d) digests)) test
+          ap (λ (b : Bool). plain_text_at (cond b (false ∷ turns_to d place) (true ∷ turns_to d (place - 2 ^ d))) (full (suc d) digests)) test
           ∙ leaf_at d (take (2 ^ d) digests) place (length-take-le (2 ^ d) digests (omega (arith, count, two))) low
           ∙ ap (λ (x : Digest). Some (over_digest x)) (get_or-take (2 ^ d) digests place no_digest low)
       | inr high ↦
           let test : nat_lt place (2 ^ d) ≡ false = grind (arith, nat_tests) in
           let back : length (drop (2 ^ d) digests) ≡ 2 ^ d = omega (arith, length-drop (2 ^ d) digests, count, two) in
           let here : 2 ^ d + (place - 2 ^ d) ≡ place = omega (arith, high) in
-          ap (λ (b : Bool). text_at (cond b (false ∷ turns_to d place) (true ∷ turns_to d (place - 2 ^ d))) (full (suc d) digests)) test
+          ap (λ (b : Bool). plain_text_at (cond b (false ∷ turns_to d place) (true ∷ turns_to d (place - 2 ^ d))) (full (suc d) digests)) test
           ∙ leaf_at d (drop (2 ^ d) digests) (place - 2 ^ d) back (omega (arith, lt, two, high))
           ∙ ap (λ (x : Digest). Some (over_digest x))
           (get_or-drop (2 ^ d) digests (place - 2 ^ d) no_digest ∙ ap (λ (p : ℕ). get_or digests p no_digest) here)
@@ -45,7 +45,7 @@ leaf_at (suc d) digests place count lt =
 
 -- at the end of the turns for an axis stands the leaf over its root
 pub axis_leaf : (header : Roots) → AreRoots header → (axis : Axis) (index : ℕ) → index < 2 * header.k
-    → text_at (turns_for header.k axis index) (full (root_halvings header.k) (header.rows ++ header.cols)) ≡ Some (0 ∷ (root_of header axis index).0)
+    → plain_text_at (turns_for header.k axis index) (full (root_halvings header.k) (header.rows ++ header.cols)) ≡ Some (0 ∷ (root_of header axis index).0)
 axis_leaf header are axis index lt =
     let whole : 4 * header.k ≡ 2 ^ root_halvings header.k = power_width header.k are.width in
     let count : length (header.rows ++ header.cols) ≡ 2 ^ root_halvings header.k =

@@ -18,15 +18,15 @@ use Rattle.axis_roots.proofs.Grids.HeaderLemmas.{header_width}
 use Rattle.axis_roots.proofs.Messages.OwnLemmas.{accepted_own}
 use Rattle.blob_commit.specs.DataTrees.{ending, climbed, full}
 use Rattle.blob_commit.specs.Proofs.{RootedParts, RootedHolds, IsRooted}
-use Rattle.blob_commit.specs.Places.{AxisText, NamesClash, IsOwnRooted, string_at, turns_for}
+use Rattle.blob_commit.specs.Places.{AxisText, PlacesNameClash, IsOwnRooted, tree_string, turns_for}
 use Rattle.blob_commit.proofs.DataTreeLemmas.{Clashes}
 use Rattle.blob_commit.proofs.HeaderLemmas.{header_whole, root_own}
 
 -- at some turns two parts have these strings
 pub record StringsAt (p q : Part) (left right : List ℕ) : Type 0 where
   pub turns : List Bool
-  pub left_at : string_at turns p ≡ Some left
-  pub right_at : string_at turns q ≡ Some right
+  pub left_at : tree_string turns p ≡ Some left
+  pub right_at : tree_string turns q ≡ Some right
 
 -- what was found stands at a place in both
 pub strings_found : (p q : Part) (a b : List ℕ) → clash_at p q ≡ Some (a, b) → StringsAt p q a b
@@ -52,13 +52,13 @@ strings_found (join l r) (join u v) a b f =
 -- a collision in the data tree is one at a place
 pub clash_above : (header : Roots) (S : SquareShares) (k : ℕ) (axis : Axis) (i : ℕ) (digest : Digest) (hashes : List (List ℕ)) (part : Part) → IsHeaderOf header S
     → Clashes (climbed (root_place k axis i) (ending digest) hashes) (full (root_halvings header.k) (header.rows ++ header.cols))
-    → NamesClash (AxisText k axis i digest hashes part) S
+    → PlacesNameClash (AxisText k axis i digest hashes part) S
 clash_above header S k axis i digest hashes part own c =
     (record { up = c.turns; inner = None }, c.left, c.right, inl (refl, c.left_at), inl (header, own, refl, c.right_at), c.clash)
 
 -- a collision in the tree of an axis is one at a place
 pub clash_inside : (S : SquareShares) (k : ℕ) (axis : Axis) (i : ℕ) (digest : Digest) (hashes : List (List ℕ)) (part : Part) → k ≡ S.k → i < 2 * S.k
-    → NamesAt part S axis i → NamesClash (AxisText k axis i digest hashes part) S
+    → NamesAt part S axis i → PlacesNameClash (AxisText k axis i digest hashes part) S
 clash_inside S k axis i digest hashes part width lt names =
     let c = strings_found part (axis_tree S.k names.grid axis i) names.left names.right names.found in (
       record { up = turns_for k axis i; inner = Some c.turns },

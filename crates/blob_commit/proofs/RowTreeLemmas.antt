@@ -18,7 +18,7 @@ use Rattle.axis_roots.specs.Grids.{share_at, axis_names, axis_shares, is_ordered
 use Rattle.axis_roots.proofs.Grids.AxisLemmas.{length-along}
 use Rattle.axis_roots.proofs.Grids.LineLemmas.{length-line_names}
 use Rattle.axis_roots.proofs.Grids.HeaderLemmas.{ordered_axis, some_if, header_width, header_root}
-use Rattle.blob_commit.specs.Making.{IsRowTree}
+use Rattle.blob_commit.specs.Making.{IsHeaderRowTree}
 
 -- a header's root of a row is the digest over all leaves of the row
 row_span : (k : ℕ) (shares : List Share) (header : Roots) (row : ℕ) → is_width k ≡ true → header_of_grid k shares ≡ Some header → row < 2 * k
@@ -32,7 +32,7 @@ row_span k shares header row width e lt =
 
 -- so a tree over them is the header's tree of the row
 pub row_tree_of : (k : ℕ) (shares : List Share) (header : Roots) (row : ℕ) (tree : StoredTree) → is_width k ≡ true → header_of_grid k shares ≡ Some header → row < k
-    → tree.count ≡ 2 * k → tree.leaves ≡ Some (leaf_digests (axis_names k shares Row row) (axis_shares k shares Row row)) → IsRowTree header row tree
+    → tree.count ≡ 2 * k → tree.leaves ≡ Some (leaf_digests (axis_names k shares Row row) (axis_shares k shares Row row)) → IsHeaderRowTree header row tree
 row_tree_of k shares header row tree width e lt count leaves =
     let same : header.k ≡ k = header_width k shares header e in
     record {

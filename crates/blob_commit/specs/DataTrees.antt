@@ -16,17 +16,17 @@ hash_of (ending digest) = leaf_hash digest
 hash_of (fork left right) = inner_hash (hash_of left) (hash_of right)
 
 -- the string that is hashed for it, none where only the hash is known
-abbrev pub text_of : Plain → Option (List ℕ)
-text_of (known hash) = None
-text_of (ending digest) = Some (0 ∷ digest.0)
-text_of (fork left right) = Some (1 ∷ hash_of left ++ hash_of right)
+abbrev pub hashed_text : Plain → Option (List ℕ)
+hashed_text (known hash) = None
+hashed_text (ending digest) = Some (0 ∷ digest.0)
+hashed_text (fork left right) = Some (1 ∷ hash_of left ++ hash_of right)
 
 -- the string at the end of left (false) and right (true) turns from the root
-abbrev pub text_at : List Bool → Plain → Option (List ℕ)
-text_at [] tree = text_of tree
-text_at (turn ∷ turns) (known hash) = None
-text_at (turn ∷ turns) (ending digest) = None
-text_at (turn ∷ turns) (fork left right) = if turn then text_at turns right else text_at turns left
+abbrev pub plain_text_at : List Bool → Plain → Option (List ℕ)
+plain_text_at [] tree = hashed_text tree
+plain_text_at (turn ∷ turns) (known hash) = None
+plain_text_at (turn ∷ turns) (ending digest) = None
+plain_text_at (turn ∷ turns) (fork left right) = if turn then plain_text_at turns right else plain_text_at turns left
 
 -- the tree that hashes make from a place upwards: at an odd place the next hash stands on the left
 unfoldable pub climbed : ℕ → Plain → List (List ℕ) → Plain

@@ -10,13 +10,13 @@ use Rattle.axis_roots.specs.Trees.{no_tree}
 use Rattle.blob_commit.specs.Proofs.{RowParts, row_sizes, shown_in, fits_rows, RowsLead, RowsOpen}
 
 -- a tree is for 2k leaves, isn't empty, and has the root of a row of a header
-pub record IsRowTree (header : Roots) (row : ℕ) (tree : StoredTree) : Type 0 where
+pub record IsHeaderRowTree (header : Roots) (row : ℕ) (tree : StoredTree) : Type 0 where
   pub count : tree.count ≡ 2 * header.k
   pub root : digest_over tree 0 (2 * header.k) ≡ Some (root_of header Row row)
 
 -- trees begin with those of the first k rows, in their order
-abbrev pub AreRowTrees : Roots → List StoredTree → Type 0
-AreRowTrees header trees = (row : ℕ) → row < header.k → IsRowTree header row (get_or trees row no_tree)
+abbrev pub BeginWithRowTrees : Roots → List StoredTree → Type 0
+BeginWithRowTrees header trees = (row : ℕ) → row < header.k → IsHeaderRowTree header row (get_or trees row no_tree)
 
 -- a row is the one in which `left` shares from an index on begin, and holds under a data root
 pub record RowHolds (root : List ℕ) (k levels at left : ℕ) (row : RowParts) : Type 0 where

@@ -17,7 +17,7 @@ use Rattle.axis_roots.specs.Own.{opened_by}
 use Rattle.axis_roots.specs.Grids.{Extends, IsHeaderOf, share_at, axis_tree}
 use Rattle.blob_commit.specs.Cuts.{levels_of}
 use Rattle.blob_commit.specs.Commitments.{commitment_over}
-use Rattle.blob_commit.specs.DataTrees.{ending, climbed, full, text_at, turns_to}
+use Rattle.blob_commit.specs.DataTrees.{ending, climbed, full, plain_text_at, turns_to}
 use Rattle.blob_commit.specs.Proofs.{RowParts, CommitParts, RootedParts, part_of_row, shown_in}
 
 -- a place: turns in the data tree, and from the end of these, where a new tree begins, turns in the tree of an axis
@@ -26,13 +26,13 @@ pub record Place : Type 0 where
   pub inner : Option (List Bool)
 
 -- the string of a namespaced Merkle tree at the end of left (false) and right (true) turns from its root
-abbrev pub string_at : List Bool → Part → Option (List ℕ)
-string_at [] (given digest) = None
-string_at [] (leaf name share) = Some (leaf_text name share)
-string_at [] (join left right) = Some (join_text (digest_of left) (digest_of right))
-string_at (turn ∷ turns) (given digest) = None
-string_at (turn ∷ turns) (leaf name share) = None
-string_at (turn ∷ turns) (join left right) = if turn then string_at turns right else string_at turns left
+abbrev pub tree_string : List Bool → Part → Option (List ℕ)
+tree_string [] (given digest) = None
+tree_string [] (leaf name share) = Some (leaf_text name share)
+tree_string [] (join left right) = Some (join_text (digest_of left) (digest_of right))
+tree_string (turn ∷ turns) (given digest) = None
+tree_string (turn ∷ turns) (leaf name share) = None
+tree_string (turn ∷ turns) (join left right) = if turn then tree_string turns right else tree_string turns left
 
 -- ---- the strings of a proof
 
@@ -44,9 +44,9 @@ turns_for k axis index = turns_to (root_halvings k) (root_place k axis index)
 -- string at this place
 abbrev pub AxisText : ℕ → Axis → ℕ → Digest → List (List ℕ) → Part → Place → List ℕ → Type 0
 AxisText k axis index root hashes part place text =
-    ((place.inner ≡ None) × (text_at place.up (climbed (root_place k axis index) (ending root) hashes) ≡ Some text))
+    ((place.inner ≡ None) × (plain_text_at place.up (climbed (root_place k axis index) (ending root) hashes) ≡ Some text))
     ⊎ ((turns : List Bool) × (place.inner ≡ Some turns) × (place.up ≡ turns_for k axis index)
-    × (string_at turns part ≡ Some text))
+    × (tree_string turns part ≡ Some text))
 
 -- the tree that a row of a commitment proof opens
 abbrev pub row_tree : ℕ → ℕ → ℕ → ℕ → RowParts → Part
@@ -77,14 +77,14 @@ RootedText proof place text =
 abbrev pub SquareText : SquareShares → Place → List ℕ → Type 0
 SquareText square place text =
     ((header : Roots) × IsHeaderOf header square × (place.inner ≡ None)
-    × (text_at place.up (full (root_halvings header.k) (header.rows ++ header.cols)) ≡ Some text))
+    × (plain_text_at place.up (full (root_halvings header.k) (header.rows ++ header.cols)) ≡ Some text))
     ⊎ ((axis : Axis) × (i : ℕ) × (grid : List Share) × (turns : List Bool) × (i < 2 * square.k)
     × Extends square.k square.shares grid × (place.inner ≡ Some turns) × (place.up ≡ turns_for square.k axis i)
-    × (string_at turns (axis_tree square.k grid axis i) ≡ Some text))
+    × (tree_string turns (axis_tree square.k grid axis i) ≡ Some text))
 
 -- what has strings at places and a square name a collision: at some place both have one, and these are a collision
-abbrev pub NamesClash : (Place → List ℕ → Type 0) → SquareShares → Type 0
-NamesClash HasText square =
+abbrev pub PlacesNameClash : (Place → List ℕ → Type 0) → SquareShares → Type 0
+PlacesNameClash HasText square =
     (place : Place) × (left : List ℕ) × (right : List ℕ) × HasText place left × SquareText square place right
     × IsClash left right
 
@@ -105,9 +105,9 @@ pub record RootedOwn (proof : RootedParts) (square : SquareShares) : Type 0 wher
 -- under the data root of a square's header a commitment proof is of the square's shares, or they name a collision
 abbrev pub IsOwnCommit : Roots → CommitParts → Type 0
 IsOwnCommit header proof =
-    (square : SquareShares) → IsHeaderOf header square → CommitsOwn proof square ⊎ NamesClash (CommitText proof) square
+    (square : SquareShares) → IsHeaderOf header square → CommitsOwn proof square ⊎ PlacesNameClash (CommitText proof) square
 
 -- under the data root of a square's header a root proof is of the extension's share, or they name a collision
 abbrev pub IsOwnRooted : Roots → RootedParts → Type 0
 IsOwnRooted header proof =
-    (square : SquareShares) → IsHeaderOf header square → RootedOwn proof square ⊎ NamesClash (RootedText proof) square
+    (square : SquareShares) → IsHeaderOf header square → RootedOwn proof square ⊎ PlacesNameClash (RootedText proof) square

@@ -11,11 +11,11 @@ ghost use Rattle.std.specs.List.{AllByRecursion};
 ghost use Rattle.share_split.specs.Blobs.{NamedBytes, blob_shares_of};
 ghost use Rattle.square_layout.specs.Blocks.{BlockParts, SquareShares};
 ghost use Rattle.square_layout.specs.Refusals.{max_shares, layout_refusal};
-ghost use Rattle.square_layout.specs.Layout.{in_order, share_count_of, start_after, end_of, compact_end, square_of};
+ghost use Rattle.square_layout.specs.Layout.{in_order, share_count_of, start_after, end_of, compact_end, block_square};
 ghost use Rattle.data_header.specs.Headers.{Roots, AreRoots, root_of};
 ghost use Rattle.data_header.specs.DataRoots.{data_root_of, root_halvings};
 ghost use Rattle.data_header.specs.Paths.{most_hashes};
-ghost use Rattle.blob_commit.specs.DataTrees.{full, text_at};
+ghost use Rattle.blob_commit.specs.DataTrees.{full, plain_text_at};
 ghost use Rattle.axis_roots.specs.declared.message.messages.Message.{Message};
 ghost use Rattle.axis_roots.specs.Messages.{IsMessage};
 ghost use Rattle.axis_roots.specs.Openings.{IsProved};
@@ -59,7 +59,7 @@ pub fn commitment_laws()
 pub fn place_laws()
     // At the end of the turns for an axis the data tree of a header has the leaf over the root of this axis.
     ensures axis { (header : Roots) → AreRoots header → (axis : Axis) (index : ℕ) →
-        index < 2 * header.k → text_at (turns_for header.k axis index)
+        index < 2 * header.k → plain_text_at (turns_for header.k axis index)
         (full (root_halvings header.k) (header.rows ++ header.cols))
         ≡ Some (0 ∷ (root_of header axis index).0) }
 {}
@@ -69,14 +69,14 @@ pub fn range_laws()
     // It is one of which a proof is made.
     ensures range { (block : BlockParts) (before after : List NamedBytes) (blob : NamedBytes) →
         layout_refusal block ≡ None → in_order block.blobs ≡ before ++ blob ∷ after →
-        is_range (square_of block).k (start_after (end_of (compact_end block) before) blob)
+        is_range (block_square block).k (start_after (end_of (compact_end block) before) blob)
         (share_count_of blob) ≡ true }
 
     // The square's shares in it are the blob's.
     ensures shares { (block : BlockParts) (before after : List NamedBytes) (blob : NamedBytes) →
         in_order block.blobs ≡ before ++ blob ∷ after →
         take (share_count_of blob)
-        (drop (start_after (end_of (compact_end block) before) blob) (square_of block).shares)
+        (drop (start_after (end_of (compact_end block) before) blob) (block_square block).shares)
         ≡ blob_shares_of blob.namespace blob.signer blob.bytes }
 {
     blob_laws();

@@ -13,7 +13,7 @@ ghost use Rattle.data_header.specs.DataRoots.{data_root_of, OpensRoot};
 ghost use Rattle.blob_commit.specs.Bounds.{most_levels};
 ghost use Rattle.blob_commit.specs.Cuts.{levels_of};
 ghost use Rattle.blob_commit.specs.Proofs.{is_range, CommitHolds};
-ghost use Rattle.blob_commit.specs.Making.{IsRowTree, AreRowTrees, RowsHold, AddsRow, AddsRows};
+ghost use Rattle.blob_commit.specs.Making.{IsHeaderRowTree, BeginWithRowTrees, RowsHold, AddsRow, AddsRows};
 
 use crate::buffers::Hashes;
 use crate::cutting::{cut_by, levels_of};
@@ -83,7 +83,7 @@ fn make_row(
 ) -> Result<CommitRow, NoMemory>
     requires width { IsTrue (is_width roots.now.k) }
     requires index { index < roots.now.k }
-    requires tree { IsRowTree roots.now index tree.now }
+    requires tree { IsHeaderRowTree roots.now index tree.now }
     requires some { 0 < length sizes.now }
     requires places { AreAligned from (2 * roots.now.k) sizes.now }
     ensures lead { IfOk result (λ row.
@@ -120,7 +120,7 @@ fn add_row(
     rows: &mut Vec<CommitRow>,
 ) -> Result<(), NoMemory>
     requires number { roots.now.k ≤ length trees.now }
-    requires trees { AreRowTrees roots.now trees.now }
+    requires trees { BeginWithRowTrees roots.now trees.now }
     requires levels { 1 ≤ levels }
     requires bound { levels ≤ most_levels }
     requires some { 0 < rest.left }
@@ -153,7 +153,7 @@ fn add_rows(
     rows: &mut Vec<CommitRow>,
 ) -> Result<(), NoMemory>
     requires number { roots.now.k ≤ length trees.now }
-    requires trees { AreRowTrees roots.now trees.now }
+    requires trees { BeginWithRowTrees roots.now trees.now }
     requires levels { 1 ≤ levels }
     requires bound { levels ≤ most_levels }
     requires within { rest.at + rest.left ≤ roots.now.k * roots.now.k }
@@ -184,7 +184,7 @@ fn rows_of(
 ) -> Result<Vec<CommitRow>, NoMemory>
     requires width { IsTrue (is_width roots.now.k) }
     requires number { roots.now.k ≤ length trees.now }
-    requires trees { AreRowTrees roots.now trees.now }
+    requires trees { BeginWithRowTrees roots.now trees.now }
     requires range { is_range roots.now.k start count ≡ true }
     ensures { IfOk result (λ rows. RowsHold (data_root_of roots.now) roots.now.k (levels_of count)
         start count rows.items) }
@@ -215,7 +215,7 @@ pub fn prove_commit(
     count: u32,
 ) -> Result<CommitProof, ProveError>
     requires number { roots.now.k ≤ length trees.now }
-    requires trees { AreRowTrees roots.now trees.now }
+    requires trees { BeginWithRowTrees roots.now trees.now }
     ensures range { IsErrOf result ProveError.Range ↔
         (is_range roots.now.k start count ≡ false) }
 

@@ -2,7 +2,7 @@
 
 ghost use Rattle.std.specs.Prelude.{◌≡◌, ◌<◌, length, IfOk, Some};
 ghost use Rattle.axis_roots.specs.Grids.{header_of_grid};
-ghost use Rattle.blob_commit.specs.Making.{IsRowTree, AreRowTrees};
+ghost use Rattle.blob_commit.specs.Making.{IsHeaderRowTree, BeginWithRowTrees};
 
 use axis_roots::{Grid, grid_laws, message_of};
 use data_header::Header;
@@ -14,7 +14,7 @@ use std::alloc::Global;
 fn row_tree(alloc: Global, grid: &Grid, header: &Header, row: u16) -> Result<Tree, NoMemory>
     requires header { header_of_grid grid.now.k grid.now.shares ≡ Some header.now }
     requires row { row < grid.now.k }
-    ensures { IfOk result (λ tree. IsRowTree header.now row tree) }
+    ensures { IfOk result (λ tree. IsHeaderRowTree header.now row tree) }
 {
     grid_laws();
     let mut tree = Tree::new(alloc, 2 * grid.width())?;
@@ -31,7 +31,7 @@ fn row_tree(alloc: Global, grid: &Grid, header: &Header, row: u16) -> Result<Tre
 pub fn row_trees(alloc: Global, grid: &Grid, header: &Header) -> Result<Vec<Tree>, NoMemory>
     requires { header_of_grid grid.now.k grid.now.shares ≡ Some header.now }
     ensures number { IfOk result (λ trees. length trees.items ≡ header.now.k) }
-    ensures trees { IfOk result (λ trees. AreRowTrees header.now trees.items) }
+    ensures trees { IfOk result (λ trees. BeginWithRowTrees header.now trees.items) }
 {
     let Ok(mut trees) = Vec::with_capacity(alloc, grid.width() as usize) else {
         return Err(NoMemory);

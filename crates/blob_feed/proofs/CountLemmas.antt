@@ -15,7 +15,7 @@ use Rattle.namespace_id.proofs.WidthLemmas.{is_width-le}
 use Rattle.namespace_id.proofs.AscendingLemmas.{length-ascending}
 use Rattle.share_split.specs.declared.joining.JoinError.{JoinError}
 use Rattle.share_split.specs.Blobs.{NamedBytes}
-use Rattle.share_split.specs.Walks.{Sequence, with_blob, blob_refusal, blobs_from, blobs_of}
+use Rattle.share_split.specs.Walks.{Sequence, with_blob, blob_share_refusal, blobs_from, blobs_joined}
 use Rattle.data_header.specs.Headers.{Roots}
 use Rattle.axis_roots.specs.declared.answers.Found.{Found}
 use Rattle.axis_roots.specs.declared.answers.Found.TheVariants.{Range, Absence}
@@ -64,13 +64,13 @@ unfolding blobs_from
 blobs_few [] i None = omega arith
 blobs_few [] i (Some s) = tt
 blobs_few (share ∷ shares) i None =
-    checked_few (suc (length shares)) (blob_refusal i None share) _
+    checked_few (suc (length shares)) (blob_share_refusal i None share) _
     (either_few (suc (length shares)) _ _ _
     (with_few (length shares) (record { first = i; name = _; version = 0; signer = _; size = _; content = _ })
     (blobs_from (suc i) None shares) (blobs_few shares (suc i) None))
     (more (length shares) _ (blobs_few shares (suc i) (Some _))))
 blobs_few (share ∷ shares) i (Some s) =
-    checked_few (suc (length shares)) (blob_refusal i (Some s) share) _
+    checked_few (suc (length shares)) (blob_share_refusal i (Some s) share) _
     (either_few (suc (length shares)) _ _ _
     (with_few (length shares) (record { first = i; name = _; version = 0; signer = _; size = _; content = _ })
     (blobs_from (suc i) None shares) (blobs_few shares (suc i) None))
@@ -120,7 +120,7 @@ square_few a n k few small le =
 
 -- the number of blobs of a complete answer has four bytes
 pub complete_counted : (header : Roots) (name : Namespace) (answer : List NsEntry) → is_width header.k ≡ true
-    → IsComplete header name answer → IsCounted (blobs_of (shares_shown answer))
+    → IsComplete header name answer → IsCounted (blobs_joined (shares_shown answer))
 complete_counted header name answer width complete =
     let rows : length answer ≤ header.k =
     let same : length answer ≡ length (wanted_rows header name) =
@@ -131,6 +131,6 @@ complete_counted header name answer width complete =
     let shares : length (shares_shown answer) ≤ length answer * header.k =
     subst (λ (l : List Share). length l ≤ length answer * header.k) (sym (shown_by_entry answer))
     (entries_few header name answer complete.entries) in
-    few_counted (length (shares_shown answer)) (blobs_of (shares_shown answer))
+    few_counted (length (shares_shown answer)) (blobs_joined (shares_shown answer))
     (square_few (length (shares_shown answer)) (length answer) header.k rows (is_width-le header.k width) shares)
     (blobs_few (shares_shown answer) 0 None)

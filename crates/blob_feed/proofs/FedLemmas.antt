@@ -5,7 +5,7 @@ use Rattle.std.specs.Option.{option_map}
 use Rattle.std.proofs.lemmas.List.Elements.{Contains-push_cases}
 use Rattle.namespace_id.specs.declared.namespaces.Namespace.{Namespace}
 use Rattle.namespace_id.specs.Names.{is_blob_namespace, namespace_refusal, IsNamespace}
-use Rattle.share_split.specs.Walks.{blobs_of}
+use Rattle.share_split.specs.Walks.{blobs_joined}
 use Rattle.data_header.specs.Headers.{Roots}
 use Rattle.axis_roots.specs.declared.answers.NsEntry.{NsEntry}
 use Rattle.square_serve.specs.Answers.{IsComplete, answer_refusal}
@@ -15,7 +15,7 @@ use Rattle.blob_feed.specs.declared.entries.FollowError.TheVariants.{NotBlob, Un
 use Rattle.blob_feed.specs.declared.followers.Last.{Last}
 use Rattle.blob_feed.specs.Filters.{IsFilter, wanted_by}
 use Rattle.blob_feed.specs.Feeds.{NamedAnswer, Height, with_answer, NoneComplete, IsFirstComplete, IsFedAt, IsFedIn, Read, read_of, shares_shown}
-use Rattle.blob_feed.specs.Followers.{Feed, AreFed, IsNew, IsEntered, IsRefusedFor, entry_in, is_name, kept_in}
+use Rattle.blob_feed.specs.Followers.{Feed, AreFed, IsNew, IsEntered, IsAnswerRefusedFor, entry_in, is_name, kept_in}
 use Rattle.blob_feed.proofs.NameLemmas.{same_name, same_refl}
 
 module _ (wants : Namespace → Type 0) where
@@ -74,7 +74,7 @@ module _ (wants : Namespace → Type 0) (height : Height) (given : NamedAnswer) 
   -- the first complete answer
   pub fed_first : wants given.name → is_blob_namespace given.name.0 ≡ true
       → IsComplete height.header given.name given.answer → IsFedAt wants height given.name None
-      → (read : Read) → read ≡ blobs_of (shares_shown given.answer)
+      → (read : Read) → read ≡ blobs_joined (shares_shown given.answer)
       → IsFedAt wants (with_answer height given) given.name (Some read)
   fed_first wanted blob complete fed read is = (
     wanted,
@@ -121,7 +121,7 @@ module _ {F : Type 0} (can_ask : F → Namespace → Type 0) (answers : F → Na
     (answer : List NsEntry) (law : (header : Roots)
     → (answer_refusal header name answer ≡ None) ↔ IsComplete header name answer) where
   -- an answer that is refused isn't the first complete one of a namespace that is wanted
-  not_first : (why : FollowError) → IsRefusedFor (answers filter name) last name answer why
+  not_first : (why : FollowError) → IsAnswerRefusedFor (answers filter name) last name answer why
       → option_map read_of (entry_in last.feed name) ≡ None → answers filter name true
       → is_blob_namespace name.0 ≡ true → IsComplete last.header name answer → ⊥
   not_first (NotBlob why) refused none wanted blob complete =
@@ -134,7 +134,7 @@ module _ {F : Type 0} (can_ask : F → Namespace → Type 0) (answers : F → Na
   not_first NoMemory refused none wanted blob complete = refused
 
   -- so it changes nothing
-  pub refused_fed : (why : FollowError) → IsRefusedFor (answers filter name) last name answer why
+  pub refused_fed : (why : FollowError) → IsAnswerRefusedFor (answers filter name) last name answer why
       → (height : Height) → last.header ≡ height.header → AreFed (wanted_by answers filter) last.feed height
       → AreFed (wanted_by answers filter) last.feed (with_answer height (record { name = name; answer = answer }))
   refused_fed why refused height same fed = λ other.

@@ -7,7 +7,7 @@ use Rattle.std.proofs.lemmas.List.Folds.{find-append}
 use Rattle.namespace_id.specs.declared.namespaces.Namespace.{Namespace}
 use Rattle.namespace_id.specs.Names.{is_blob_namespace}
 use Rattle.namespace_id.proofs.MemberLemmas.{contains_cons, contains_none}
-use Rattle.share_split.specs.Walks.{blobs_of}
+use Rattle.share_split.specs.Walks.{blobs_joined}
 use Rattle.data_header.specs.Headers.{Roots}
 use Rattle.axis_roots.specs.declared.answers.NsEntry.{NsEntry}
 use Rattle.square_serve.specs.declared.checking.NsRefusal.{NsRefusal}
@@ -32,8 +32,8 @@ map_or f (Some x) other = refl
 pub first_more : (header : Roots) (name : Namespace) (answers : List NamedAnswer) (given : NamedAnswer)
     → first_read header name (answers ++ given ∷ []) ≡ option_or (first_read header name answers) (first_read header name (given ∷ []))
 first_more header name answers given =
-    ap (option_map (λ (g : NamedAnswer). blobs_of (shares_shown g.answer))) (find-append (completes header name) answers (given ∷ []))
-    ∙ map_or (λ (g : NamedAnswer). blobs_of (shares_shown g.answer)) (find (completes header name) answers)
+    ap (option_map (λ (g : NamedAnswer). blobs_joined (shares_shown g.answer))) (find-append (completes header name) answers (given ∷ []))
+    ∙ map_or (λ (g : NamedAnswer). blobs_joined (shares_shown g.answer)) (find (completes header name) answers)
     (find (completes header name) (given ∷ []))
 
 module _ (law : (header : Roots) (name : Namespace) (answer : List NsEntry)
@@ -80,7 +80,7 @@ module _ (law : (header : Roots) (name : Namespace) (answer : List NsEntry)
 
     -- one that passes is the first
     fed_here : (given : NamedAnswer) (answers : List NamedAnswer) → completes header name given ≡ true
-        → IsFedAt wants (under (given ∷ answers)) name (Some (blobs_of (shares_shown given.answer)))
+        → IsFedAt wants (under (given ∷ answers)) name (Some (blobs_joined (shares_shown given.answer)))
     fed_here given answers e =
         let both = and_parts _ _ e in
         let same : given.name ≡ name = same_name given.name name both.0 in (
@@ -103,7 +103,7 @@ module _ (law : (header : Roots) (name : Namespace) (answer : List NsEntry)
     -- with one answer in front, by whether it passes
     fed_by : (given : NamedAnswer) (answers : List NamedAnswer) (b : Bool) → completes header name given ≡ b
         → IsFedAt wants (under answers) name (first_read header name answers)
-        → IsFedAt wants (under (given ∷ answers)) name (option_map (λ (g : NamedAnswer). blobs_of (shares_shown g.answer))
+        → IsFedAt wants (under (given ∷ answers)) name (option_map (λ (g : NamedAnswer). blobs_joined (shares_shown g.answer))
         (cond b (Some given) (find (completes header name) answers)))
     fed_by given answers true e fed = fed_here given answers e
     fed_by given answers false e fed = fed_later given answers (first_read header name answers) e fed

@@ -3,7 +3,7 @@ use Rattle.std.proofs.Common.{◌≡◌, ◌∙◌, suc, List, [], ◌∷◌, �
 use Rattle.std.specs.List.{Contains}
 use Rattle.std.proofs.lemmas.List.Elements.{Contains-append_right}
 use Rattle.namespace_id.specs.declared.namespaces.Namespace.{Namespace}
-use Rattle.share_split.specs.Walks.{blobs_of}
+use Rattle.share_split.specs.Walks.{blobs_joined}
 use Rattle.data_header.specs.Headers.{Roots}
 use Rattle.axis_roots.specs.declared.answers.NsEntry.{NsEntry}
 use Rattle.square_serve.specs.Answers.{IsComplete}
@@ -71,6 +71,6 @@ module _ (wants : Namespace → Type 0) where
       absurd (some_complete height.header name height.answers answer first (none wanted blob))
   fed_once (Some height) name (Some one) (Some other) (_, _, (a, first, is)) (_, _, (b, second, was)) =
       ap (λ (r : Read). Some r) (is
-      ∙ ap (λ (l : List NsEntry). blobs_of (shares_shown l))
+      ∙ ap (λ (l : List NsEntry). blobs_joined (shares_shown l))
       (first_once height.header name height.answers a b first second)
       ∙ sym was)

@@ -8,7 +8,7 @@ use Rattle.namespace_id.specs.declared.namespaces.Namespace.{Namespace}
 use Rattle.namespace_id.specs.declared.shares.Share.{Share}
 use Rattle.namespace_id.specs.Names.{IsNamespace, is_blob_namespace}
 use Rattle.share_split.specs.Blobs.{NamedBytes}
-use Rattle.share_split.specs.Walks.{blobs_of}
+use Rattle.share_split.specs.Walks.{blobs_joined}
 use Rattle.data_header.specs.Headers.{Roots}
 use Rattle.square_layout.specs.Blocks.{SquareShares}
 use Rattle.axis_roots.specs.declared.answers.NsEntry.{NsEntry}
@@ -54,17 +54,17 @@ module _ (law : (header : Roots) (name : Namespace) (answer : List NsEntry) → 
   -- a complete answer is read as the square's shares of the namespace, or it and the square name a collision
   own_answer : (header : Roots) (name : Namespace) (answer : List NsEntry) (square : SquareShares)
       → IsNamedAnswer (given_for name answer) → IsComplete header name answer → IsHeaderOf header square
-      → (blobs_of (shares_shown answer) ≡ blobs_of (shares_in square name)) ⊎ AnswerNames name square answer
+      → (blobs_joined (shares_shown answer) ≡ blobs_joined (shares_in square name)) ⊎ AnswerNames name square answer
   own_answer header name answer square given complete own =
       elim (law header name answer given.name given.entries complete square own) [
-        | inl all ↦ inl (ap (λ (l : List (Cell × Share)). blobs_of (map (λ (p : Cell × Share). p.1) l)) all.shares)
+        | inl all ↦ inl (ap (λ (l : List (Cell × Share)). blobs_joined (map (λ (p : Cell × Share). p.1) l)) all.shares)
         | inr clash ↦ inr clash
       ]
 
   -- so is the first complete one of a height
   own_height : (height : Height) (name : Namespace) (answer : List NsEntry) (square : SquareShares)
       → AreAnswers height → IsFirstComplete height.header name height.answers answer → IsHeaderOf height.header square
-      → (blobs_of (shares_shown answer) ≡ blobs_of (shares_in square name)) ⊎ AnswerNames name square answer
+      → (blobs_joined (shares_shown answer) ≡ blobs_joined (shares_in square name)) ⊎ AnswerNames name square answer
   own_height height name answer square are first own = own_answer height.header name answer square
       (each_between IsNamedAnswer first.before (given_for name answer) first.after
       (subst (λ (l : List NamedAnswer). AllByRecursion IsNamedAnswer l) first.parts are)) first.complete own
@@ -73,7 +73,7 @@ module _ (law : (header : Roots) (name : Namespace) (answer : List NsEntry) → 
   own_in : (wants : Namespace → Type 0) (height : Option Height) (name : Namespace) (read : Read) (header : Roots)
       (square : SquareShares) → IfSome height AreAnswers → IsFedIn wants height name (Some read)
       → option_map (λ (h : Height). h.header) height ≡ Some header → IsHeaderOf header square
-      → (read ≡ blobs_of (shares_in square name))
+      → (read ≡ blobs_joined (shares_in square name))
       ⊎ ((answer : List NsEntry) × IsFirstIn height name answer × AnswerNames name square answer)
   own_in wants None name read header square are fed has own = absurd cc
   own_in wants (Some height) name read header square are (wanted, blob, (answer, first, is)) has own =
@@ -87,7 +87,7 @@ module _ (law : (header : Roots) (name : Namespace) (answer : List NsEntry) → 
   pub own_at : (wants : Namespace → Type 0) (items : List Item) (number : ℕ) (name : Namespace) (read : Read)
       (header : Roots) (square : SquareShares) → AreItems items → FeedsAt wants items number name (Some read)
       → header_at items number ≡ Some header → IsHeaderOf header square
-      → (read ≡ blobs_of (shares_in square name)) ⊎ FirstNames items number name square
+      → (read ≡ blobs_joined (shares_in square name)) ⊎ FirstNames items number name square
   own_at wants items number name read header square are fed has own =
       own_in wants (slice_get (heights_of items) number) name read header square
       (each_at AreAnswers (heights_of items) (heights_are items are) number) fed has own
@@ -96,7 +96,7 @@ module _ (law : (header : Roots) (name : Namespace) (answer : List NsEntry) → 
   pub blobs_at : (wants : Namespace → Type 0) (items : List Item) (number : ℕ) (name : Namespace) (read : Read)
       (header : Roots) (square : SquareShares) (blobs : List NamedBytes) → AreItems items
       → FeedsAt wants items number name (Some read) → header_at items number ≡ Some header → IsHeaderOf header square
-      → (is_blob_namespace name.0 ≡ true → blobs_of (shares_in square name) ≡ Ok blobs)
+      → (is_blob_namespace name.0 ≡ true → blobs_joined (shares_in square name) ≡ Ok blobs)
       → (read ≡ Ok blobs) ⊎ FirstNames items number name square
   blobs_at wants items number name read header square blobs are fed has own joined =
       elim (own_at wants items number name read header square are fed has own) [

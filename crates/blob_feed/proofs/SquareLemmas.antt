@@ -8,9 +8,9 @@ use Rattle.namespace_id.specs.Shares.{IsShare, AreShares}
 use Rattle.share_split.specs.Blobs.{NamedBytes}
 use Rattle.share_split.specs.Units.{unit_shares_of}
 use Rattle.share_split.specs.Joined.{padding_share, IsBlob, AreBlobs}
-use Rattle.share_split.specs.Walks.{blobs_of}
+use Rattle.share_split.specs.Walks.{blobs_joined}
 use Rattle.square_layout.specs.Blocks.{BlockParts, IsSquare}
-use Rattle.square_layout.specs.Layout.{has_name, in_order, placed, compact_end, laid, width_for, square_of}
+use Rattle.square_layout.specs.Layout.{has_name, in_order, placed, compact_end, laid, width_for, block_square}
 use Rattle.square_layout.specs.ShareNames.{BlobSharesAreNamed, UnitSharesAreNamed, PaddingIsNamed}
 use Rattle.square_serve.specs.Shares.{is_named}
 use Rattle.blob_feed.specs.Feeds.{shares_in}
@@ -40,7 +40,7 @@ other_than name other blob not_one same =
 -- the shares of a namespace of a blob are among those of the blobs
 among_blobs : UnitSharesAreNamed → PaddingIsNamed → (block : BlockParts) (name : Namespace)
     → is_blob_namespace name.0 ≡ true
-    → filter (is_named name) (square_of block).shares
+    → filter (is_named name) (block_square block).shares
     ≡ filter (is_named name) (placed primary_reserved_padding (compact_end block) (in_order block.blobs))
 among_blobs of_units of_padding block name blob =
     between name (unit_shares_of transaction block.units) (unit_shares_of pay_for_blob block.pay_units)
@@ -70,19 +70,19 @@ kept_shares test (share ∷ shares) are =
 -- the shares of a namespace in the square of a block are read as the block's blobs of it, in the order of the block
 pub block_read : BlobSharesAreNamed → UnitSharesAreNamed → PaddingIsNamed → (block : BlockParts) (name : Namespace)
     → is_blob_namespace name.0 ≡ true
-    → IsSquare (square_of block) → AreShares (square_of block).shares → IsNamespace primary_reserved_padding
+    → IsSquare (block_square block) → AreShares (block_square block).shares → IsNamespace primary_reserved_padding
     → AllByRecursion IsBlob (in_order block.blobs)
     → ((shares : List Share) (blobs : List NamedBytes) → AreShares shares
-    → (blobs_of shares ≡ Ok blobs) ↔ AreBlobs shares blobs)
+    → (blobs_joined shares ≡ Ok blobs) ↔ AreBlobs shares blobs)
     → filter (has_name name) (in_order block.blobs) ≡ filter (has_name name) block.blobs
-    → blobs_of (shares_in (square_of block) name) ≡ Ok (filter (has_name name) block.blobs)
+    → blobs_joined (shares_in (block_square block) name) ≡ Ok (filter (has_name name) block.blobs)
 block_read of_blobs of_units of_padding block name blob whole are reserved blobs join stable =
-    let kept : AreBlobs (filter (is_named name) (square_of block).shares)
+    let kept : AreBlobs (filter (is_named name) (block_square block).shares)
     (filter (has_name name) (in_order block.blobs)) =
     subst (λ (s : List Share). AreBlobs s (filter (has_name name) (in_order block.blobs)))
     (sym (among_blobs of_units of_padding block name blob))
     (placed_part of_blobs of_padding name primary_reserved_padding (compact_end block) (in_order block.blobs) reserved blobs) in
-    ap blobs_of (shares_in_square (square_of block) name whole)
-    ∙ (join (filter (is_named name) (square_of block).shares) (filter (has_name name) block.blobs)
-    (kept_shares (is_named name) (square_of block).shares are)).1
-    (subst (λ (l : List NamedBytes). AreBlobs (filter (is_named name) (square_of block).shares) l) stable kept)
+    ap blobs_joined (shares_in_square (block_square block) name whole)
+    ∙ (join (filter (is_named name) (block_square block).shares) (filter (has_name name) block.blobs)
+    (kept_shares (is_named name) (block_square block).shares are)).1
+    (subst (λ (l : List NamedBytes). AreBlobs (filter (is_named name) (block_square block).shares) l) stable kept)

@@ -8,7 +8,7 @@ use Rattle.data_header.specs.Headers.{Roots}
 use Rattle.axis_roots.specs.declared.answers.NsEntry.{NsEntry}
 use Rattle.blob_feed.specs.declared.followers.Last.{Last}
 use Rattle.blob_feed.specs.Feeds.{NamedAnswer, Item, headed, answered, IsNamedAnswer, IsItem, Height, with_answer, heights_of}
-use Rattle.blob_feed.specs.Followers.{Feed, AreFed, StandsFor, IsEntered, IsLastEntry, entry_in, kept_in, last_feed, last_header}
+use Rattle.blob_feed.specs.Followers.{Feed, AreFed, FollowerStands, IsEntered, IsLastEntry, entry_in, kept_in, last_feed, last_header}
 use Rattle.blob_feed.proofs.HeightLemmas.{heights_headed, heights_answered}
 use Rattle.blob_feed.proofs.ZipLemmas.{last_pushed, zip_split, Split}
 use Rattle.blob_feed.proofs.NameLemmas.{same_refl}
@@ -40,15 +40,15 @@ last_entered filter past old new name answer entered = record {
 
 module _ {F : Type 0} (wants : Namespace → Type 0) where
   -- a new follower stands for nothing
-  pub stands_new : (filter : F) → StandsFor wants (record { filter = filter; past = []; last = None }) []
+  pub stands_new : (filter : F) → FollowerStands wants (record { filter = filter; past = []; last = None }) []
   unfolding heights_of
   stands_new filter = record { are_items = tt; feeds = tt; header = refl }
 
   -- the next height
   pub stands_headed : (filter : F) (past : List Feed) (last : Option Last) (next : List Feed) (items : List Item)
       (header : Roots) → next ≡ past ++ last_feed last
-      → StandsFor wants (record { filter = filter; past = past; last = last }) items
-      → StandsFor wants (record { filter = filter; past = next; last = Some (record { header = header; feed = [] }) })
+      → FollowerStands wants (record { filter = filter; past = past; last = last }) items
+      → FollowerStands wants (record { filter = filter; past = next; last = Some (record { header = header; feed = [] }) })
       (items ++ headed header ∷ [])
   stands_headed filter past last next items header is stands =
       let height : Height = record { header = header; answers = [] } in
@@ -66,8 +66,8 @@ module _ {F : Type 0} (wants : Namespace → Type 0) where
       → IsNamedAnswer given
       → ((height : Height) → old.header ≡ height.header → AreFed wants old.feed height
       → AreFed wants new.feed (with_answer height given)) → new.header ≡ old.header
-      → StandsFor wants (record { filter = filter; past = past; last = Some old }) items
-      → StandsFor wants (record { filter = filter; past = past; last = Some new }) (items ++ answered given ∷ [])
+      → FollowerStands wants (record { filter = filter; past = past; last = Some old }) items
+      → FollowerStands wants (record { filter = filter; past = past; last = Some new }) (items ++ answered given ∷ [])
   stands_answered filter past old new items given is fed same stands =
       let parts : Split (AreFed wants) past old.feed (heights_of items) =
       zip_split (AreFed wants) past old.feed (heights_of items) stands.feeds in

@@ -7,14 +7,14 @@ use Rattle.namespace_id.specs.declared.shares.Share.{Share}
 use Rattle.namespace_id.specs.Names.{IsNamespace, is_blob_namespace}
 use Rattle.share_split.specs.declared.joining.JoinError.{JoinError}
 use Rattle.share_split.specs.Blobs.{NamedBytes}
-use Rattle.share_split.specs.Walks.{blobs_of}
+use Rattle.share_split.specs.Walks.{blobs_joined}
 use Rattle.data_header.specs.Headers.{Roots}
 use Rattle.axis_roots.specs.declared.answers.Found.{Found}
 use Rattle.axis_roots.specs.declared.answers.Found.TheVariants.{Range, Absence}
 use Rattle.axis_roots.specs.declared.answers.NsEntry.{NsEntry}
 use Rattle.axis_roots.specs.Answers.{AreEntries}
 use Rattle.square_layout.specs.Blocks.{SquareShares}
-use Rattle.square_serve.specs.Shares.{shares_of}
+use Rattle.square_serve.specs.Shares.{namespace_shares}
 use Rattle.square_serve.specs.Answers.{shown, IsComplete}
 use Rattle.square_serve.specs.Own.{AnswerNames}
 use Rattle.blob_feed.specs.declared.entries.Entry.{Entry}
@@ -118,7 +118,7 @@ IsFedAt wants height name None =
     wants name → is_blob_namespace name.0 ≡ true → NoneComplete height.header name height.answers
 IsFedAt wants height name (Some read) = wants name × (is_blob_namespace name.0 ≡ true)
     × ((answer : List NsEntry) × IsFirstComplete height.header name height.answers answer
-    × (read ≡ blobs_of (shares_shown answer)))
+    × (read ≡ blobs_joined (shares_shown answer)))
 
 -- what it has, if there is such a height
 abbrev pub IsFedIn : (Namespace → Type 0) → Option Height → Namespace → Option Read → Type 0
@@ -141,9 +141,9 @@ read_of (Blobs blobs) = Ok blobs.items
 read_of (Malformed why) = Err why
 
 -- what an answer brought whose shares are read so
-abbrev pub taken_of : Read → Taken
-taken_of (Ok blobs) = taken.Blobs (length blobs)
-taken_of (Err why) = taken.Malformed why
+abbrev pub brought_by : Read → Taken
+brought_by (Ok blobs) = taken.Blobs (length blobs)
+brought_by (Err why) = taken.Malformed why
 
 -- the number of what shares are read as has four bytes
 abbrev pub IsCounted : Read → Type 0
@@ -154,7 +154,7 @@ IsCounted (Err why) = ⊤
 
 -- the shares of a namespace in a square, row-major
 abbrev pub shares_in : SquareShares → Namespace → List Share
-shares_in square name = map (λ p. p.1) (shares_of square name)
+shares_in square name = map (λ p. p.1) (namespace_shares square name)
 
 -- the first complete answer for a namespace at a height and a square name a collision
 abbrev pub FirstNames : List Item → ℕ → Namespace → SquareShares → Type 0

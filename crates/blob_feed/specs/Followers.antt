@@ -9,7 +9,7 @@ use Rattle.namespace_id.specs.Names.{namespace_cmp, namespace_refusal}
 use Rattle.data_header.specs.Headers.{Roots}
 use Rattle.axis_roots.specs.declared.answers.NsEntry.{NsEntry}
 use Rattle.square_serve.specs.Answers.{answer_refusal}
-use Rattle.share_split.specs.Walks.{blobs_of}
+use Rattle.share_split.specs.Walks.{blobs_joined}
 use Rattle.blob_feed.specs.declared.entries.Entry.{Entry}
 use Rattle.blob_feed.specs.declared.entries.FollowError.{FollowError}
 use Rattle.blob_feed.specs.declared.entries.FollowError.TheVariants.{NotBlob, Unwanted, Refused, Twice, NoMemory}
@@ -52,8 +52,8 @@ abbrev pub feeds_of : {F : Type 0} → FollowerParts F → List Feed
 feeds_of follower = follower.past ++ last_feed follower.last
 
 -- how many heights there are
-abbrev pub count_of : {F : Type 0} → FollowerParts F → ℕ
-count_of follower = length (feeds_of follower)
+abbrev pub height_count : {F : Type 0} → FollowerParts F → ℕ
+height_count follower = length (feeds_of follower)
 
 -- what is kept of a namespace among the entries of a height, if there is such a height
 abbrev pub kept_in : Option Feed → Namespace → Option Entry
@@ -84,7 +84,7 @@ last_header heights = option_map (λ h. h.header) (slice_get heights (length hei
 
 -- a follower stands for the headers and answers that it was handed, in their order, but for those at which
 -- memory ran out
-pub record StandsFor {F : Type 0} (wants : Namespace → Type 0) (follower : FollowerParts F) (items : List Item)
+pub record FollowerStands {F : Type 0} (wants : Namespace → Type 0) (follower : FollowerParts F) (items : List Item)
     : Type 0 where
   pub are_items : AreItems items
   pub feeds : AllZip (AreFed wants) (feeds_of follower) (heights_of items)
@@ -94,15 +94,15 @@ pub record StandsFor {F : Type 0} (wants : Namespace → Type 0) (follower : Fol
 
 -- an answer for a namespace is refused at the last height, for the first check that fails, where the filter may say
 -- this of the namespace
-abbrev pub IsRefusedFor : (Bool → Type 0) → Last → Namespace → List NsEntry → FollowError → Type 0
-IsRefusedFor says last name answer (NotBlob why) = namespace_refusal name.0 ≡ Some why
-IsRefusedFor says last name answer Unwanted = (namespace_refusal name.0 ≡ None) × says false
-IsRefusedFor says last name answer (Refused why) =
+abbrev pub IsAnswerRefusedFor : (Bool → Type 0) → Last → Namespace → List NsEntry → FollowError → Type 0
+IsAnswerRefusedFor says last name answer (NotBlob why) = namespace_refusal name.0 ≡ Some why
+IsAnswerRefusedFor says last name answer Unwanted = (namespace_refusal name.0 ≡ None) × says false
+IsAnswerRefusedFor says last name answer (Refused why) =
     (namespace_refusal name.0 ≡ None) × says true × (answer_refusal last.header name answer ≡ Some why)
-IsRefusedFor says last name answer Twice = (namespace_refusal name.0 ≡ None) × says true
+IsAnswerRefusedFor says last name answer Twice = (namespace_refusal name.0 ≡ None) × says true
     × (answer_refusal last.header name answer ≡ None)
     × (has_entry last.feed name ≡ true)
-IsRefusedFor says last name answer NoMemory = ⊥
+IsAnswerRefusedFor says last name answer NoMemory = ⊥
 
 -- no check fails
 pub record IsNew (says : Bool → Type 0) (last : Last) (name : Namespace) (answer : List NsEntry) : Type 0 where
@@ -114,7 +114,7 @@ pub record IsNew (says : Bool → Type 0) (last : Last) (name : Namespace) (answ
 -- what the shares of an answer are is entered under its namespace, and all else stays
 pub record IsEntered (old new : Feed) (name : Namespace) (answer : List NsEntry) : Type 0 where
   pub entry : Entry
-  pub read : read_of entry ≡ blobs_of (shares_shown answer)
+  pub read : read_of entry ≡ blobs_joined (shares_shown answer)
   pub entries : (other : Namespace)
       → entry_in new other ≡ (if is_name name other then Some entry else entry_in old other)
 
@@ -122,8 +122,8 @@ pub record IsEntered (old new : Feed) (name : Namespace) (answer : List NsEntry)
 pub record IsLastEntry {F : Type 0} (follower : FollowerParts F) (name : Namespace) (answer : List NsEntry)
     : Type 0 where
   pub entry : Entry
-  pub kept : kept_at follower (count_of follower - 1) name ≡ Some entry
-  pub read : read_of entry ≡ blobs_of (shares_shown answer)
+  pub kept : kept_at follower (height_count follower - 1) name ≡ Some entry
+  pub read : read_of entry ≡ blobs_joined (shares_shown answer)
 
 -- a call wasn't out of memory
 abbrev pub HadMemory : {T : Type 0} → Result T FollowError → Type 0

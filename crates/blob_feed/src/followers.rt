@@ -4,11 +4,11 @@ ghost use Rattle.std.specs.Prelude.{◌≡◌, ◌↔◌, true, false, ◌+◌, 
 ghost use Rattle.std.specs.Option.{option_map};
 ghost use Rattle.namespace_id.specs.Answers.{HasRoom};
 ghost use Rattle.namespace_id.specs.Cells.{is_width};
-ghost use Rattle.share_split.specs.Walks.{blobs_of};
+ghost use Rattle.share_split.specs.Walks.{blobs_joined};
 ghost use Rattle.blob_feed.specs.declared.entries.FollowError.{FollowError as Refusal};
 ghost use Rattle.blob_feed.specs.Filters.{IsFilter, wanted_by};
-ghost use Rattle.blob_feed.specs.Feeds.{Item, Height, headed, answered, with_answer, FeedsAt, read_of, taken_of, shares_shown, IsCounted};
-ghost use Rattle.blob_feed.specs.Followers.{FollowerParts, StandsFor, AreFed, count_of, kept_at, IsNew, IsEntered, IsLastEntry, IsRefusedFor, HadMemory};
+ghost use Rattle.blob_feed.specs.Feeds.{Item, Height, headed, answered, with_answer, FeedsAt, read_of, brought_by, shares_shown, IsCounted};
+ghost use Rattle.blob_feed.specs.Followers.{FollowerParts, FollowerStands, AreFed, height_count, kept_at, IsNew, IsEntered, IsLastEntry, IsAnswerRefusedFor, HadMemory};
 ghost use Rattle.blob_feed.specs.declared.entries.FollowError.TheVariants.{NotBlob, Unwanted, NoMemory as Full};
 ghost use Rattle.namespace_id.specs.declared.namespaces.NsError.{NsError as NameRefusal};
 ghost use Rattle.namespace_id.specs.Names.{namespace_refusal};
@@ -100,7 +100,7 @@ fn judge<F: Filter>(
     ensures accepts { IsOk result ↔
         IsNew (F.answers filter.now namespace.now) last.now namespace.now answer.now }
     ensures refused { (why : Refusal) → IsErrOf result why ↔
-        IsRefusedFor (F.answers filter.now namespace.now) last.now namespace.now answer.now why }
+        IsAnswerRefusedFor (F.answers filter.now namespace.now) last.now namespace.now answer.now why }
 {
     namespace_law(namespace);
     width_law(&last.header);
@@ -126,8 +126,8 @@ fn enter(
     namespace: &Namespace,
     answer: &NsAnswer,
 ) -> Result<Taken, NoMemory>
-    requires few { IsCounted (blobs_of (shares_shown answer.now)) }
-    ensures taken { IfOk result (λ taken. taken ≡ taken_of (blobs_of (shares_shown answer.now))) }
+    requires few { IsCounted (blobs_joined (shares_shown answer.now)) }
+    ensures taken { IfOk result (λ taken. taken ≡ brought_by (blobs_joined (shares_shown answer.now))) }
     ensures entered { OnOk result (IsEntered feed.old feed.new namespace.now answer.now) }
     ensures unchanged { OnErr result (feed.new ≡ feed.old) }
 {
@@ -146,11 +146,11 @@ fn take<F: Filter>(
     answer: &NsAnswer,
 ) -> Result<Taken, FollowError>
     requires filter { IsFilter F.can_ask F.answers filter.now }
-    ensures taken { IfOk result (λ taken. taken ≡ taken_of (blobs_of (shares_shown answer.now))) }
+    ensures taken { IfOk result (λ taken. taken ≡ brought_by (blobs_joined (shares_shown answer.now))) }
     ensures accepts { OnOk result
         (IsNew (F.answers filter.now namespace.now) last.old namespace.now answer.now) }
     ensures refused { (why : Refusal) → (why ≡ Full → ⊥) → IsErrOf result why ↔
-        IsRefusedFor (F.answers filter.now namespace.now) last.old namespace.now answer.now why }
+        IsAnswerRefusedFor (F.answers filter.now namespace.now) last.old namespace.now answer.now why }
     ensures entered { OnOk result
         (IsEntered last.old.feed last.new.feed namespace.now answer.now) }
     ensures header { last.new.header ≡ last.old.header }
@@ -176,8 +176,8 @@ impl<F: Filter> Follower<F> {
     pub fn new(alloc: Global, filter: F) -> Follower<F>
         requires filter { IsFilter F.can_ask F.answers filter }
         ensures filter { result.filter ≡ filter }
-        ensures count { count_of result ≡ 0 }
-        ensures stands { StandsFor (wanted_by F.answers filter) result [] }
+        ensures count { height_count result ≡ 0 }
+        ensures stands { FollowerStands (wanted_by F.answers filter) result [] }
     {
         Follower {
             alloc,
@@ -189,7 +189,7 @@ impl<F: Filter> Follower<F> {
 
     /// How many heights there are. It takes no memory.
     pub fn heights(&self) -> u32
-        ensures { result ≡ count_of self.now }
+        ensures { result ≡ height_count self.now }
     {
         let count = self.past.len() as u32;
         if self.last.is_some() {
@@ -205,12 +205,12 @@ impl<F: Filter> Follower<F> {
     /// It refuses only where there is no memory. Then the header is dropped, and nothing has
     /// changed.
     pub fn header(&mut self, header: Header) -> Result<(), NoMemory>
-        requires few { count_of self.old < 2 ^ 32 - 1 }
+        requires few { height_count self.old < 2 ^ 32 - 1 }
         ensures stands { OnOk result ((items : List Item) →
-            StandsFor (wanted_by F.answers self.old.filter) self.old items →
-            StandsFor (wanted_by F.answers self.old.filter) self.new
+            FollowerStands (wanted_by F.answers self.old.filter) self.old items →
+            FollowerStands (wanted_by F.answers self.old.filter) self.new
             (items ++ headed header ∷ [])) }
-        ensures count { OnOk result (count_of self.new ≡ count_of self.old + 1) }
+        ensures count { OnOk result (height_count self.new ≡ height_count self.old + 1) }
         ensures filter { self.new.filter ≡ self.old.filter }
         ensures unchanged { OnErr result (self.new ≡ self.old) }
     {
@@ -240,9 +240,9 @@ impl<F: Filter> Follower<F> {
     /// Celestia specifications, "Data Structures", namespace proofs; docs/RULES.md, "Following
     /// namespaces".
     pub fn answer(&mut self, namespace: &Namespace, answer: &NsAnswer) -> Result<Taken, FollowError>
-        requires height { 1 ≤ count_of self.old }
+        requires height { 1 ≤ height_count self.old }
         ensures taken { IfOk result (λ taken.
-            taken ≡ taken_of (blobs_of (shares_shown answer.now))) }
+            taken ≡ brought_by (blobs_joined (shares_shown answer.now))) }
         ensures entered { OnOk result (IsLastEntry self.new namespace.now answer.now) }
 
         // The checks, at the last height.
@@ -250,7 +250,7 @@ impl<F: Filter> Follower<F> {
             IsNew (F.answers self.old.filter namespace.now) last namespace.now answer.now) }
         ensures refused { (last : LastParts) → self.old.last ≡ Some last →
             (why : Refusal) → (why ≡ Full → ⊥) → IsErrOf result why ↔
-            IsRefusedFor (F.answers self.old.filter namespace.now) last namespace.now
+            IsAnswerRefusedFor (F.answers self.old.filter namespace.now) last namespace.now
             answer.now why }
 
         // The first two one by one: a namespace that isn't one of a blob, then one that the filter doesn't want,
@@ -263,10 +263,10 @@ impl<F: Filter> Follower<F> {
 
         // It stands for the answer too, refused or not, unless memory ran out.
         ensures stands { HadMemory result → (items : List Item) →
-            StandsFor (wanted_by F.answers self.old.filter) self.old items →
-            StandsFor (wanted_by F.answers self.old.filter) self.new
+            FollowerStands (wanted_by F.answers self.old.filter) self.old items →
+            FollowerStands (wanted_by F.answers self.old.filter) self.new
             (items ++ answered (record { name = namespace.now; answer = answer.now }) ∷ []) }
-        ensures count { count_of self.new ≡ count_of self.old }
+        ensures count { height_count self.new ≡ height_count self.old }
         ensures filter { self.new.filter ≡ self.old.filter }
         ensures unchanged { OnErr result (self.new ≡ self.old) }
     {
@@ -302,7 +302,7 @@ impl<F: Filter> Follower<F> {
     pub fn entry(&self, height: u32, namespace: &Namespace) -> Option<&Entry>
         ensures kept { option_copied result ≡ kept_at self.now height namespace.now }
         ensures stands { (items : List Item) →
-            StandsFor (wanted_by F.answers self.now.filter) self.now items →
+            FollowerStands (wanted_by F.answers self.now.filter) self.now items →
             FeedsAt (wanted_by F.answers self.now.filter) items height namespace.now
             (option_map read_of (option_copied result)) }
     {

@@ -1,8 +1,8 @@
 //! The shares that an answer shows, and the entry that they are.
 
 ghost use Rattle.std.specs.Prelude.{◌≡◌, ◌++◌, IfOk, OnOk};
-ghost use Rattle.share_split.specs.Walks.{blobs_of};
-ghost use Rattle.blob_feed.specs.Feeds.{shares_shown, shares_found, read_of, taken_of, IsCounted};
+ghost use Rattle.share_split.specs.Walks.{blobs_joined};
+ghost use Rattle.blob_feed.specs.Feeds.{shares_shown, shares_found, read_of, brought_by, IsCounted};
 
 use crate::{Entry, Taken};
 use axis_roots::{Found, NsAnswer, NsEntry};
@@ -37,7 +37,7 @@ fn shares_shown(alloc: Global, entries: &[NsEntry]) -> Result<Vec<Share>, NoMemo
 
 /// The entry that the shares of an answer are.
 pub(crate) fn joined(alloc: Global, answer: &NsAnswer) -> Result<Entry, NoMemory>
-    ensures { IfOk result (λ entry. read_of entry ≡ blobs_of (shares_shown answer.now)) }
+    ensures { IfOk result (λ entry. read_of entry ≡ blobs_joined (shares_shown answer.now)) }
 {
     let shares = shares_shown(alloc, &answer.entries)?;
     match join_blobs(alloc, &shares) {
@@ -50,7 +50,7 @@ pub(crate) fn joined(alloc: Global, answer: &NsAnswer) -> Result<Entry, NoMemory
 /// What an entry brought.
 pub(crate) fn taken(entry: &Entry) -> Taken
     requires few { IsCounted (read_of entry.now) }
-    ensures { result ≡ taken_of (read_of entry.now) }
+    ensures { result ≡ brought_by (read_of entry.now) }
 {
     match entry {
         Entry::Blobs(blobs) => Taken::Blobs(blobs.len() as u32),

@@ -5,15 +5,15 @@ ghost use Rattle.std.specs.List.{filter};
 ghost use Rattle.std.specs.Option.{option_map};
 ghost use Rattle.namespace_id.specs.declared.namespaces.Namespace.{Namespace};
 ghost use Rattle.namespace_id.specs.Names.{is_blob_namespace};
-ghost use Rattle.share_split.specs.Walks.{blobs_of};
+ghost use Rattle.share_split.specs.Walks.{blobs_joined};
 ghost use Rattle.square_layout.specs.Blocks.{BlockParts, IsBlock};
-ghost use Rattle.square_layout.specs.Layout.{has_name, square_of};
+ghost use Rattle.square_layout.specs.Layout.{has_name, block_square};
 ghost use Rattle.square_layout.specs.Refusals.{layout_refusal};
 ghost use Rattle.blob_feed.specs.Filters.{wanted_by};
 ghost use Rattle.blob_feed.specs.Feeds.{Item, Height, Read, read_of, IsFedAt, FeedsAt, IsFeedOf, shares_in};
 ghost use Rattle.blob_feed.specs.Firsts.{first_read};
 ghost use Rattle.blob_feed.specs.Laws.{FeedsOfSquare, FeedsOfBlock};
-ghost use Rattle.blob_feed.specs.Followers.{FollowerParts, StandsFor, kept_at};
+ghost use Rattle.blob_feed.specs.Followers.{FollowerParts, FollowerStands, kept_at};
 
 use crate::Filter;
 use namespace_id::{PRIMARY_RESERVED_PADDING, namespace_law, reserved_namespaces};
@@ -25,7 +25,7 @@ use square_serve::answer_laws;
 pub fn feed_laws<F: Filter>()
     // The entries of a follower are the feed of the headers and answers for which it stands.
     ensures feed { (follower : FollowerParts F) (items : List Item) →
-        StandsFor (wanted_by F.answers follower.filter) follower items →
+        FollowerStands (wanted_by F.answers follower.filter) follower items →
         IsFeedOf (wanted_by F.answers follower.filter) items
         (λ number name. option_map read_of (kept_at follower number name)) }
 
@@ -54,7 +54,7 @@ pub fn feed_laws<F: Filter>()
     // of it, with their signers, in the block's order.
     ensures joined { (block : BlockParts) (name : Namespace) → layout_refusal block ≡ None →
         IsBlock block → is_blob_namespace name.0 ≡ true →
-        blobs_of (shares_in (square_of block) name) ≡ Ok (filter (has_name name) block.blobs) }
+        blobs_joined (shares_in (block_square block) name) ≡ Ok (filter (has_name name) block.blobs) }
 
     // So it is exactly these where the header is that of the square of a block.
     ensures block { (rule : F) → FeedsOfBlock (wanted_by F.answers rule) }

@@ -1,7 +1,7 @@
 //! One answer under one header.
 
 ghost use Rattle.std.specs.Prelude.{◌≡◌, ◌↔◌, Some, None, IsErrOf, IfOk, OnOk};
-ghost use Rattle.share_split.specs.Walks.{blobs_of};
+ghost use Rattle.share_split.specs.Walks.{blobs_joined};
 ghost use Rattle.square_serve.specs.declared.checking.NsRefusal.{NsRefusal as Refusal};
 ghost use Rattle.square_serve.specs.Answers.{answer_refusal};
 ghost use Rattle.blob_feed.specs.Feeds.{shares_shown, read_of};
@@ -40,7 +40,7 @@ pub fn read_answer(
     namespace: &Namespace,
     answer: &NsAnswer,
 ) -> Result<Entry, ReadError>
-    ensures read { IfOk result (λ entry. read_of entry ≡ blobs_of (shares_shown answer.now)) }
+    ensures read { IfOk result (λ entry. read_of entry ≡ blobs_joined (shares_shown answer.now)) }
     ensures complete { OnOk result
         (answer_refusal header.now namespace.now answer.now ≡ None) }
     ensures refused { (why : Refusal) → IsErrOf result (ReadError.Refused why) ↔

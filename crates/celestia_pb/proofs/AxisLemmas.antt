@@ -8,22 +8,22 @@ use Rattle.proto_fields.specs.Canonical.{number_text, begins, canonical_number}
 use Rattle.proto_fields.proofs.Options.{and_then_parts}
 use Rattle.proto_fields.proofs.CanonicalLemmas.{number_is_read, read_is_number}
 use Rattle.axis_roots.specs.Messages.{position}
-use Rattle.celestia_pb.specs.Samples.{axis_number, place_on, axis_of}
-use Rattle.celestia_pb.specs.BefpEntries.{axis_in}
+use Rattle.celestia_pb.specs.Samples.{axis_number, place_on, axis_of_number}
+use Rattle.celestia_pb.specs.BefpEntries.{axis_field}
 use Rattle.celestia_pb.proofs.MessageLemmas.{begins_number}
 use Rattle.celestia_pb.proofs.SampleLemmas.{axis_number-is}
 
 -- it is read back, where nothing follows
-pub axis_in_is_read : (n : ℕ) (axis : Axis) → n < 16 → axis_in n (number_text n (axis_number axis)) ≡ Some (axis, [])
+pub axis_in_is_read : (n : ℕ) (axis : Axis) → n < 16 → axis_field n (number_text n (axis_number axis)) ≡ Some (axis, [])
 axis_in_is_read n Row few =
-    ap (axis_in n) (sym (append-nil (number_text n 0))) ∙ ap (option_and_then axis_of) (number_is_read n 0 [] few (omega arith) refl)
+    ap (axis_field n) (sym (append-nil (number_text n 0))) ∙ ap (option_and_then axis_of_number) (number_is_read n 0 [] few (omega arith) refl)
 axis_in_is_read n Col few =
-    ap (axis_in n) (sym (append-nil (number_text n 1))) ∙ ap (option_and_then axis_of) (number_is_read n 1 [] few (omega arith) refl)
+    ap (axis_field n) (sym (append-nil (number_text n 1))) ∙ ap (option_and_then axis_of_number) (number_is_read n 1 [] few (omega arith) refl)
 
 -- what is read as an axis was written so
-pub axis_in_back : (n : ℕ) (bytes : List ℕ) (x : Axis × List ℕ) → n < 16 → AreBytes bytes → axis_in n bytes ≡ Some x → bytes ≡ number_text n (axis_number x.0) ++ x.1
+pub axis_in_back : (n : ℕ) (bytes : List ℕ) (x : Axis × List ℕ) → n < 16 → AreBytes bytes → axis_field n bytes ≡ Some x → bytes ≡ number_text n (axis_number x.0) ++ x.1
 axis_in_back n bytes x few fits e =
-    let read = and_then_parts axis_of (canonical_number n bytes) x e in
+    let read = and_then_parts axis_of_number (canonical_number n bytes) x e in
     let is = axis_number-is read.0.0 read.0.1 x read.2 in
     (read_is_number n read.0.0 bytes read.0.1 few fits read.1).1 ∙ ap₂ (λ (m : ℕ) (l : List ℕ). number_text n m ++ l) is.0 is.1
 

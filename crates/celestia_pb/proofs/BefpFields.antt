@@ -13,9 +13,9 @@ use Rattle.axis_roots.specs.Messages.{IsMessage, position}
 use Rattle.axis_roots.specs.Claims.{ClaimParts}
 use Rattle.celestia_pb.specs.declared.befp_entries.Accused.{Accused}
 use Rattle.celestia_pb.specs.Samples.{axis_number}
-use Rattle.celestia_pb.specs.BefpEntries.{proof_text, entry_text, place_text, places_text, places_of}
+use Rattle.celestia_pb.specs.BefpEntries.{proof_text, befp_entry, befp_place, places_text, places_of}
 use Rattle.celestia_pb.specs.Befp.{befp_text, befp_value}
-use Rattle.celestia_pb.specs.BefpLaws.{HasMessage, IsBefp}
+use Rattle.celestia_pb.specs.BefpLaws.{ClaimHasMessage, IsBefp}
 use Rattle.celestia_pb.proofs.CommonLemmas.{cond_same, number_bytes, own_number, other_number}
 use Rattle.celestia_pb.proofs.FlagLemmas.{proof_few}
 use Rattle.celestia_pb.proofs.PlaceCells.{StandAt}
@@ -42,7 +42,7 @@ entry_fields flag m =
     part_field 1 m.share.0 ∷ part_field 2 (proof_text flag (position m.axis m.cell) m.path) ∷ (number_fields 3 (axis_number m.axis) ++ [])
 
 pub entry_is_common : (flag : ℕ) (m : Message) → IsMessage m
-    → (fields : List FieldParts) × (fields_of (entry_text flag m) ≡ Some fields) × (all_bytes 1 fields ≡ m.share.0 ∷ [])
+    → (fields : List FieldParts) × (fields_of (befp_entry flag m) ≡ Some fields) × (all_bytes 1 fields ≡ m.share.0 ∷ [])
     × (all_bytes 2 fields ≡ proof_text flag (position m.axis m.cell) m.path ∷ []) × (last_number 3 fields ≡ axis_number m.axis)
 entry_is_common flag m is =
     let share : List ℕ = m.share.0 in
@@ -65,7 +65,7 @@ entry_is_common flag m is =
 
 -- the fields of places
 abbrev place_fields : ℕ → List (Option Message) → List FieldParts
-place_fields flag places = map (λ (place : Option Message). part_field 3 (place_text flag place)) places
+place_fields flag places = map (λ (place : Option Message). part_field 3 (befp_place flag place)) places
 
 -- places that were written are these fields, and then those that follow
 place_fields_of : (accused : Accused) (place flag : ℕ) (places : List (Option Message)) (rest : List ℕ) (fields : List FieldParts) → StandAt accused place places
@@ -74,13 +74,13 @@ place_fields_of accused place flag [] rest fields stand others = others
 place_fields_of accused place flag (o ∷ places) rest fields stand others =
     let first = first_short accused place flag o places stand in
     ap fields_of (places_text-next flag o places rest)
-    ∙ part_fields_of 3 (place_text flag o) (places_text flag places ++ rest) (place_fields flag places ++ fields) (omega arith) (omega arith) first.0
+    ∙ part_fields_of 3 (befp_place flag o) (places_text flag places ++ rest) (place_fields flag places ++ fields) (omega arith) (omega arith) first.0
     (place_fields_of accused (suc place) flag places rest fields first.1 others)
 
 -- those of their number are all of them
-own_places : (flag : ℕ) (places : List (Option Message)) → all_bytes 3 (place_fields flag places) ≡ map (place_text flag) places
+own_places : (flag : ℕ) (places : List (Option Message)) → all_bytes 3 (place_fields flag places) ≡ map (befp_place flag) places
 own_places flag [] = refl
-own_places flag (o ∷ places) = ap (λ (l : List (List ℕ)). place_text flag o ∷ l) (own_places flag places)
+own_places flag (o ∷ places) = ap (λ (l : List (List ℕ)). befp_place flag o ∷ l) (own_places flag places)
 
 -- the hash isn't among them
 other_places : (flag : ℕ) (places : List (Option Message)) → all_bytes 1 (place_fields flag places) ≡ []
@@ -117,7 +117,7 @@ module _ (flag k : ℕ) (hash : List ℕ) (height : ℕ) (claim : ClaimParts) wh
   fields_in = part_field 1 hash ∷ behind_hash
 
   -- the message is its fields
-  text_fields : HasMessage k claim → length hash < 2 ^ 64 → height < 2 ^ 64 → fields_of (befp_text flag k hash height claim) ≡ Some fields_in
+  text_fields : ClaimHasMessage k claim → length hash < 2 ^ 64 → height < 2 ^ 64 → fields_of (befp_text flag k hash height claim) ≡ Some fields_in
   text_fields has few short =
       let axis : List ℕ = number_text 4 claim.index ++ number_text 5 kind in
       let index_few : claim.index < 2 ^ 16 = has.is.index_bytes in
@@ -152,9 +152,9 @@ module _ (flag k : ℕ) (hash : List ℕ) (height : ℕ) (claim : ClaimParts) wh
       (all_bytes_in_a_row m (number_fields 5 kind) [] ∙ ap (λ (x : List (List ℕ)). x ++ []) (number_bytes 5 m kind))))
 
   -- the message has one hash, the height, the bytes of each place, the index and the number of the axis
-  text_is_common : HasMessage k claim → length hash < 2 ^ 64 → height < 2 ^ 64
+  text_is_common : ClaimHasMessage k claim → length hash < 2 ^ 64 → height < 2 ^ 64
       → (fields : List FieldParts) × (fields_of (befp_text flag k hash height claim) ≡ Some fields)
-      × (all_bytes 1 fields ≡ hash ∷ []) × (last_number 2 fields ≡ height) × (all_bytes 3 fields ≡ map (place_text flag) places)
+      × (all_bytes 1 fields ≡ hash ∷ []) × (last_number 2 fields ≡ height) × (all_bytes 3 fields ≡ map (befp_place flag) places)
       × (last_number 4 fields ≡ claim.index) × (last_number 5 fields ≡ kind)
   text_is_common has few short = (
     fields_in,
@@ -162,7 +162,7 @@ module _ (flag k : ℕ) (hash : List ℕ) (height : ℕ) (claim : ClaimParts) wh
     ap (λ (l : List (List ℕ)). hash ∷ l) (bytes_in 1 [] (other_places flag places)),
     ap (last_of 0) (numbers_in 2 _ [] [] refl (other_number 4 2 claim.index refl) (other_number 5 2 kind refl) ∙ append-nil (all_numbers 2 (number_fields 2 height)))
         ∙ own_number 2 height,
-    bytes_in 3 (map (place_text flag) places) (own_places flag places) ∙ append-nil (map (place_text flag) places),
+    bytes_in 3 (map (befp_place flag) places) (own_places flag places) ∙ append-nil (map (befp_place flag) places),
     ap (last_of 0) (numbers_in 4 [] _ [] (other_number 2 4 height refl) refl (other_number 5 4 kind refl) ∙ append-nil (all_numbers 4 (number_fields 4 claim.index)))
         ∙ own_number 4 claim.index,
     ap (last_of 0) (numbers_in 5 [] [] _ (other_number 2 5 height refl) (other_number 4 5 claim.index refl) refl ∙ append-nil (all_numbers 5 (number_fields 5 kind)))
@@ -172,7 +172,7 @@ module _ (flag k : ℕ) (hash : List ℕ) (height : ℕ) (claim : ClaimParts) wh
 pub befp_is_common : (hash : List ℕ) (height : ℕ) (bytes : List ℕ) (claim : ClaimParts) → AreBytes bytes → befp_value hash height bytes ≡ Ok claim
     → (is : IsBefp hash height bytes claim) × (fields : List FieldParts) × (fields_of bytes ≡ Some fields)
     × (all_bytes 1 fields ≡ hash ∷ []) × (last_number 2 fields ≡ height)
-    × (all_bytes 3 fields ≡ map (place_text is.flag) (places_of claim.axis (2 * is.k) 0 claim.cells))
+    × (all_bytes 3 fields ≡ map (befp_place is.flag) (places_of claim.axis (2 * is.k) 0 claim.cells))
     × (last_number 4 fields ≡ claim.index) × (last_number 5 fields ≡ axis_number claim.axis)
 befp_is_common hash height bytes claim fits e =
     let parts = befp_back hash height bytes claim fits e in

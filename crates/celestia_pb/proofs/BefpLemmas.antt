@@ -27,12 +27,12 @@ use Rattle.celestia_pb.specs.declared.sample.Sample.{Sample}
 use Rattle.celestia_pb.specs.declared.befp_entries.Accused.{Accused}
 use Rattle.celestia_pb.specs.declared.befp_entries.Seen.{Seen}
 use Rattle.celestia_pb.specs.declared.befp.Outline.{Outline}
-use Rattle.celestia_pb.specs.Reading.{then_read, or_left, placed}
+use Rattle.celestia_pb.specs.Reading.{then_read, or_left, with_offset}
 use Rattle.celestia_pb.specs.Messages.{number_left}
 use Rattle.celestia_pb.specs.Samples.{axis_number}
-use Rattle.celestia_pb.specs.BefpEntries.{axis_in, places_text, places_of, places_at, none_seen, cells_of}
-use Rattle.celestia_pb.specs.Befp.{has_no_set, has_message, befp_text, is_index, accused_end, accused_kind, accused_left, if_accused, outline_of, outline_at, has_places, claim_of, befp_end, befp_axis, places_by, befp_places, is_height, befp_height, if_hash, hash_at, befp_left, befp_value}
-use Rattle.celestia_pb.specs.BefpLaws.{HasMessage, IsBefp}
+use Rattle.celestia_pb.specs.BefpEntries.{axis_field, places_text, places_of, places_at, none_seen, cells_of}
+use Rattle.celestia_pb.specs.Befp.{has_no_set, claim_has_message, befp_text, is_index, accused_end, accused_kind, accused_left, if_accused, outline_of, outline_at, has_places, claim_of_places, befp_end, befp_axis, places_by, befp_places, is_height, befp_height, if_this_hash, hash_matches, befp_left, befp_value}
+use Rattle.celestia_pb.specs.BefpLaws.{ClaimHasMessage, IsBefp}
 use Rattle.celestia_pb.proofs.Steps.{same_ok, cond_ok, then_ok, placed_ok}
 use Rattle.celestia_pb.proofs.Fronts.{begins_own}
 use Rattle.celestia_pb.proofs.MessageLemmas.{begins_number, number_left_is_read, number_left_back, number_left_passes}
@@ -65,7 +65,7 @@ no_set : (o : Option (List Digest)) → has_no_set o ≡ true → o ≡ None
 no_set None e = refl
 no_set (Some nodes) e = absurd (true≢false (sym e))
 
-pub tested : (k : ℕ) (claim : ClaimParts) → has_message k claim ≡ true → IsTested k claim
+pub tested : (k : ℕ) (claim : ClaimParts) → claim_has_message k claim ≡ true → IsTested k claim
 tested k claim test =
     let below : Bool = list_all (λ m. nat_lt (position claim.axis m.cell) (2 * k)) claim.cells in
     let a = and_parts (is_width k) (has_no_set claim.set && (has_shape k claim && below)) test in
@@ -92,7 +92,7 @@ claim_laid k claim is test =
     cells_laid (accused_by claim) (2 * k) 0 claim.cells is.messages test.on (subst (λ (n : ℕ). RiseFrom claim.axis 0 n claim.cells) end test.rise)
 
 -- so a claim of cells that rise has one
-has_tested : (k : ℕ) (claim : ClaimParts) → IsTested k claim → has_message k claim ≡ true
+has_tested : (k : ℕ) (claim : ClaimParts) → IsTested k claim → claim_has_message k claim ≡ true
 has_tested k claim is =
     let below : Bool = list_all (λ m. nat_lt (position claim.axis m.cell) (2 * k)) claim.cells in
     let many : eqb (length claim.cells) k ≡ true = ap (λ (n : ℕ). eqb n k) is.count ∙ eqb_self k in
@@ -136,12 +136,12 @@ accused_back count bytes x fits e =
     let a = then_ok accused_kind (number_left (is_index count) 4 bytes) x e in
     let i : ℕ = a.0.0 in
     let n = number_left_back (is_index count) 4 bytes a.0 (omega arith) fits a.1 in
-    let b = then_ok (accused_end i) (or_left a.0.1 (axis_in 5 a.0.1)) x a.2 in
+    let b = then_ok (accused_end i) (or_left a.0.1 (axis_field 5 a.0.1)) x a.2 in
     let axis : Axis = b.0.0 in
     let test = cond_ok (length b.0.1 == 0) (record { axis = axis; index = i }, b.0.1) x (length b.0.1) b.2 in
     let none : b.0.1 ≡ [] = nil_from_length b.0.1 (eqb-true (length b.0.1) 0 test.0) in
     let kind : a.0.1 ≡ number_text 5 (axis_number axis) =
-    axis_in_back 5 a.0.1 b.0 (omega arith) n.fits (or_left_some a.0.1 (axis_in 5 a.0.1) b.0 b.1)
+    axis_in_back 5 a.0.1 b.0 (omega arith) n.fits (or_left_some a.0.1 (axis_field 5 a.0.1) b.0 b.1)
     ∙ ap (λ (l : List ℕ). number_text 5 (axis_number axis) ++ l) none ∙ append-nil (number_text 5 (axis_number axis)) in
     subst (λ (y : Accused × List ℕ). IsAccusedRead count bytes y.0) test.1 (record {
       passes = number_left_passes (is_index count) 4 bytes a.0 a.1;
@@ -151,21 +151,21 @@ accused_back count bytes x fits e =
 -- ---- the hash
 
 -- it is read back
-hash_is_read : (hash rest : List ℕ) → length hash < 2 ^ 64 → hash_at hash (bytes_field 1 hash ++ rest) ≡ Ok (true, rest)
+hash_is_read : (hash rest : List ℕ) → length hash < 2 ^ 64 → hash_matches hash (bytes_field 1 hash ++ rest) ≡ Ok (true, rest)
 hash_is_read hash rest short =
     let bytes : List ℕ = bytes_field 1 hash ++ rest in
-    ap (λ (b : Bool). cond b (or_left bytes (option_and_then (if_hash hash) (canonical_part 1 bytes))) (Ok (false, bytes))) (begins_own 1 hash rest (omega arith))
-    ∙ ap (λ (o : Option (List ℕ × List ℕ)). or_left bytes (option_and_then (if_hash hash) o)) (part_read_back 1 hash rest (omega arith) short)
+    ap (λ (b : Bool). cond b (or_left bytes (option_and_then (if_this_hash hash) (canonical_part 1 bytes))) (Ok (false, bytes))) (begins_own 1 hash rest (omega arith))
+    ∙ ap (λ (o : Option (List ℕ × List ℕ)). or_left bytes (option_and_then (if_this_hash hash) o)) (part_read_back 1 hash rest (omega arith) short)
     ∙ ap (λ (b : Bool). or_left bytes (cond b (Some (true, rest)) None)) ((bytes_eq-Decides hash hash).1 refl)
 
 -- what is read as the hash was written so
 hash_back : (hash bytes rest : List ℕ) (b told : Bool) → AreBytes bytes → told ≡ true
-    → cond b (or_left bytes (option_and_then (if_hash hash) (canonical_part 1 bytes))) (Ok (false, bytes)) ≡ Ok (told, rest)
+    → cond b (or_left bytes (option_and_then (if_this_hash hash) (canonical_part 1 bytes))) (Ok (false, bytes)) ≡ Ok (told, rest)
     → (length hash < 2 ^ 64) × (bytes ≡ bytes_field 1 hash ++ rest) × AreBytes rest
 hash_back hash bytes rest false told fits is_told e =
     absurd (true≢false (sym (ap (λ (p : Bool × List ℕ). p.0) (same_ok (false, bytes) (told, rest) e) ∙ is_told)))
 hash_back hash bytes rest true told fits is_told e =
-    let found = and_then_parts (if_hash hash) (canonical_part 1 bytes) (told, rest) (or_left_some bytes (option_and_then (if_hash hash) (canonical_part 1 bytes)) (told, rest) e) in
+    let found = and_then_parts (if_this_hash hash) (canonical_part 1 bytes) (told, rest) (or_left_some bytes (option_and_then (if_this_hash hash) (canonical_part 1 bytes)) (told, rest) e) in
     let part : List ℕ = found.0.0 in
     let test = cond_some (bytes_eq part hash) (true, found.0.1) (told, rest) found.2 in
     let same : part ≡ hash = (bytes_eq-Decides part hash).0 test.0 in
@@ -240,7 +240,7 @@ module _ (flag k height : ℕ) (hash : List ℕ) (claim : ClaimParts) (one : fla
   read = places_are_read accused k flag 1024 none_seen places tail one refl laid.stand (omega (arith, many, few)) (omega (arith, laid.many, test.count)) (tail_front 26 refl refl)
 
   -- the claim is that of its cells
-  claim_read : claim_of accused (bare_all places) ≡ claim
+  claim_read : claim_of_places accused (bare_all places) ≡ claim
   claim_read =
       ap₂ (λ (cells : List Message) (set : Option (List Digest)). record { axis = claim.axis; index = claim.index; cells = cells; set = set }) laid.cells_are (sym test.plain)
 
@@ -255,7 +255,7 @@ module _ (flag k height : ℕ) (hash : List ℕ) (claim : ClaimParts) (one : fla
   axis_is_read : befp_axis (height == height) (bare_all places, read.after) tail ≡ Ok claim
   axis_is_read =
       ap (then_read (befp_end (height == height) (bare_all places, read.after))) (axis_read read.after.place (omega (arith, read.place, many)))
-      ∙ ap (λ (b : Bool). cond b (Ok (claim_of accused (bare_all places))) (Err 0)) seen_pass
+      ∙ ap (λ (b : Bool). cond b (Ok (claim_of_places accused (bare_all places))) (Err 0)) seen_pass
       ∙ ap (λ (c : ClaimParts). Ok c) claim_read
 
   left_is_read : length hash ≡ 32 → befp_left hash height (befp_text flag k hash height claim) ≡ Ok claim
@@ -267,10 +267,10 @@ module _ (flag k height : ℕ) (hash : List ℕ) (claim : ClaimParts) (one : fla
       ∙ ap (then_read (befp_axis (height == height))) read.read
       ∙ axis_is_read
 
-pub befp_is_read : (flag k : ℕ) (hash : List ℕ) (height : ℕ) (claim : ClaimParts) → flag ≤ 1 → length hash ≡ 32 → height < 2 ^ 64 → HasMessage k claim
+pub befp_is_read : (flag k : ℕ) (hash : List ℕ) (height : ℕ) (claim : ClaimParts) → flag ≤ 1 → length hash ≡ 32 → height < 2 ^ 64 → ClaimHasMessage k claim
     → befp_value hash height (befp_text flag k hash height claim) ≡ Ok claim
 befp_is_read flag k hash height claim one size short has =
-    ap (placed (length (befp_text flag k hash height claim))) (left_is_read flag k height hash claim one short has.is (tested k claim has.has) size)
+    ap (with_offset (length (befp_text flag k hash height claim))) (left_is_read flag k height hash claim one short has.is (tested k claim has.has) size)
 
 -- ---- what is read was written
 
@@ -295,11 +295,11 @@ pub record AreParts (hash : List ℕ) (height : ℕ) (bytes : List ℕ) (claim :
   pub text : bytes ≡ bytes_field 1 hash ++ (number_text 2 height ++ rest)
   pub passes : is_index seen.place accused.index ≡ true
   pub has : has_places seen.place seen.shares ≡ true
-  pub claim_is : claim_of accused places ≡ claim
+  pub claim_is : claim_of_places accused places ≡ claim
 
 parts_back : (hash : List ℕ) (height : ℕ) (bytes : List ℕ) (claim : ClaimParts) → AreBytes bytes → befp_left hash height bytes ≡ Ok claim → AreParts hash height bytes claim
 parts_back hash height bytes claim fits e =
-    let a = then_ok (befp_height height) (hash_at hash bytes) claim e in
+    let a = then_ok (befp_height height) (hash_matches hash bytes) claim e in
     let b = then_ok (befp_places height a.0.0) (number_left (is_height height) 2 a.0.1) claim a.2 in
     let told : Bool = a.0.0 && (b.0.0 == height) in
     let rest : List ℕ = b.0.1 in
@@ -308,7 +308,7 @@ parts_back hash height bytes claim fits e =
     let seen : Seen = c.0.0.1 in
     let d = then_ok (befp_end told (places, seen)) (accused_left seen.place c.0.1) claim c.2 in
     let accused : Accused = d.0.0 in
-    let test = cond_ok (told && has_places seen.place seen.shares) (claim_of accused places) claim (length d.0.1) d.2 in
+    let test = cond_ok (told && has_places seen.place seen.shares) (claim_of_places accused places) claim (length d.0.1) d.2 in
     let all = and_parts told (has_places seen.place seen.shares) test.0 in
     let both = and_parts a.0.0 (b.0.0 == height) all.0 in
     let first = hash_back hash bytes a.0.1 (begins_part 1 bytes) a.0.0 fits both.0 a.1 in
@@ -356,7 +356,7 @@ parts_spelled hash height bytes claim p =
     let end : 0 + length p.places ≡ 2 * k = omega (arith, many) in
     let low : accused.index < 2 * k = subst (λ (n : ℕ). accused.index < n) twice (index_below p.seen.place accused.index (omega (arith, twice, pos)) p.passes) in
     let messages = are_messages accused 0 p.places (omega (arith, low, le)) (omega (arith, many, le)) p.read.are in
-    let is_tested : IsTested k (claim_of accused p.places) = record {
+    let is_tested : IsTested k (claim_of_places accused p.places) = record {
       width = a.0;
       plain = refl;
       index_lt = low;
@@ -375,7 +375,7 @@ parts_spelled hash height bytes claim p =
       marked = flag_few p.seen.mark p.read.small;
       has = record {
         is = record { index_bytes = omega (arith, low, le); messages = messages; digests = tt };
-        has = has_tested k (claim_of accused p.places) is_tested;
+        has = has_tested k (claim_of_places accused p.places) is_tested;
       };
       text = p.text ∙ ap (λ (l : List ℕ). bytes_field 1 hash ++ (number_text 2 height ++ l)) rest;
     })

@@ -3,7 +3,7 @@ use Rattle.std.proofs.Common.{◌≡◌, ◌∙◌, ℕ, suc, ◌+◌, ◌-◌, 
 use Rattle.namespace_id.specs.declared.digests.Digest.{Digest}
 use Rattle.namespace_id.specs.Bytes.{AreBytes}
 use Rattle.proto_fields.specs.Canonical.{begins_part}
-use Rattle.celestia_pb.specs.Digests.{digest_at, with_digest, digests_at, entry_digest, digests_in}
+use Rattle.celestia_pb.specs.Digests.{digest_field, with_digest, digests_at, entry_digest, digests_in}
 use Rattle.celestia_pb.proofs.DigestLemmas.{read_is_digest, digests_at-none, digests_at-end, digests_at-wrong, digests_at-more}
 use Rattle.celestia_pb.proofs.EntryLemmas.{entry_digest-is, entry_rest, entry_length}
 use Rattle.celestia_pb.proofs.EntryListLemmas.{drop_more, entries-more, entries-none}
@@ -66,13 +66,13 @@ module _ (n most : ℕ) (bytes : List ℕ) (count : ℕ) (rest : List ℕ) (smal
       ∙ ap (λ (l : List Digest). Ok (l, rest)) (append-nil (digests_in count bytes))
 
   -- one is there, and is wrong
-  pub counting_refuses : count < most → begins_part n rest ≡ true → digest_at n rest ≡ None → digests_at n most bytes ≡ Err (length rest)
+  pub counting_refuses : count < most → begins_part n rest ≡ true → digest_field n rest ≡ None → digests_at n most bytes ≡ Err (length rest)
   counting_refuses more there none =
       at.all
       ∙ ap (with_digests (digests_in count bytes)) (left_more more ∙ digests_at-wrong n (most - (count + 1)) rest there none)
 
   -- one is there
-  pub counting_goes : count < most → begins_part n rest ≡ true → (digest : Digest) (after : List ℕ) → digest_at n rest ≡ Some (digest, after)
+  pub counting_goes : count < most → begins_part n rest ≡ true → (digest : Digest) (after : List ℕ) → digest_field n rest ≡ Some (digest, after)
       → IsCounting n most bytes (count + 1) after
   counting_goes more there digest after e =
       let h = read_is_digest n rest digest after small at.fits e in

@@ -12,13 +12,13 @@ use Rattle.proto_fields.proofs.Options.{and_then_parts}
 use Rattle.proto_fields.proofs.CanonicalVarints.{front_fits, behind_fits}
 use Rattle.proto_fields.proofs.CanonicalLemmas.{part_read_back, read_is_part_field}
 use Rattle.celestia_pb.specs.Reading.{or_left}
-use Rattle.celestia_pb.specs.Digests.{digests_text, if_digest, digest_at, with_digest, before_digests, digests_at}
+use Rattle.celestia_pb.specs.Digests.{digests_text, if_digest, digest_field, with_digest, before_digests, digests_at}
 use Rattle.celestia_pb.proofs.Fronts.{begins_own, begins_other}
 
 -- ---- one digest
 
 -- a digest is read back, whatever follows
-pub digest_is_read : (n : ℕ) (digest : Digest) (rest : List ℕ) → n < 16 → length digest.0 ≡ 90 → digest_at n (bytes_field n digest.0 ++ rest) ≡ Some (digest, rest)
+pub digest_is_read : (n : ℕ) (digest : Digest) (rest : List ℕ) → n < 16 → length digest.0 ≡ 90 → digest_field n (bytes_field n digest.0 ++ rest) ≡ Some (digest, rest)
 digest_is_read n digest rest few size =
     let test : eqb (length digest.0) 90 ≡ true = grind (arith, nat_tests) in
     ap (option_and_then if_digest) (part_read_back n digest.0 rest few (omega arith))
@@ -35,7 +35,7 @@ pub field_fits : (n : ℕ) (bytes : List ℕ) → AreBytes (bytes_field n bytes)
 field_fits n bytes fits = behind_fits (varint (length bytes)) bytes (behind_fits (varint (8 * n + 2)) (text bytes) fits)
 
 -- what is read as a digest was written so
-pub read_is_digest : (n : ℕ) (bytes : List ℕ) (digest : Digest) (rest : List ℕ) → n < 16 → AreBytes bytes → digest_at n bytes ≡ Some (digest, rest)
+pub read_is_digest : (n : ℕ) (bytes : List ℕ) (digest : Digest) (rest : List ℕ) → n < 16 → AreBytes bytes → digest_field n bytes ≡ Some (digest, rest)
     → IsDigestRead n bytes digest rest
 read_is_digest n bytes digest rest few fits e =
     let read = and_then_parts if_digest (canonical_part n bytes) (digest, rest) e in
@@ -64,7 +64,7 @@ digests_at-none n bytes = refl
 
 -- what is read behind a test whether one is there
 abbrev pub if_begins : ℕ → ℕ → List ℕ → Bool → Result (List Digest × List ℕ) ℕ
-if_begins n most bytes b = cond b (before_digests (digests_at n most) (or_left bytes (digest_at n bytes))) (Ok ([], bytes))
+if_begins n most bytes b = cond b (before_digests (digests_at n most) (or_left bytes (digest_field n bytes))) (Ok ([], bytes))
 
 -- one more may be read
 pub digests_at-next : (n most : ℕ) (bytes : List ℕ) → digests_at n (suc most) bytes ≡ if_begins n most bytes (begins_part n bytes)
@@ -77,14 +77,14 @@ digests_at-end n zero bytes none = digests_at-none n bytes
 digests_at-end n (suc most) bytes none = digests_at-next n most bytes ∙ ap (if_begins n most bytes) none
 
 -- one is there, and is wrong
-pub digests_at-wrong : (n most : ℕ) (bytes : List ℕ) → begins_part n bytes ≡ true → digest_at n bytes ≡ None → digests_at n (suc most) bytes ≡ Err (length bytes)
+pub digests_at-wrong : (n most : ℕ) (bytes : List ℕ) → begins_part n bytes ≡ true → digest_field n bytes ≡ None → digests_at n (suc most) bytes ≡ Err (length bytes)
 digests_at-wrong n most bytes there e =
     digests_at-next n most bytes
     ∙ ap (if_begins n most bytes) there
     ∙ ap (λ (o : Option (Digest × List ℕ)). before_digests (digests_at n most) (or_left bytes o)) e
 
 -- one is there
-pub digests_at-more : (n most : ℕ) (bytes : List ℕ) (digest : Digest) (rest : List ℕ) → begins_part n bytes ≡ true → digest_at n bytes ≡ Some (digest, rest)
+pub digests_at-more : (n most : ℕ) (bytes : List ℕ) (digest : Digest) (rest : List ℕ) → begins_part n bytes ≡ true → digest_field n bytes ≡ Some (digest, rest)
     → digests_at n (suc most) bytes ≡ with_digest digest (digests_at n most rest)
 digests_at-more n most bytes digest rest there e =
     digests_at-next n most bytes
@@ -168,7 +168,7 @@ Back n most = (bytes : List ℕ) (digests : List Digest) (rest : List ℕ) → A
 
 -- a first one was read, and others
 one_read : (n most : ℕ) (bytes : List ℕ) (digests : List Digest) (rest : List ℕ) (o : Option (Digest × List ℕ)) → n < 16 → Back n most → AreBytes bytes
-    → digest_at n bytes ≡ o → before_digests (digests_at n most) (or_left bytes o) ≡ Ok (digests, rest) → AreDigestsRead n (suc most) bytes digests rest
+    → digest_field n bytes ≡ o → before_digests (digests_at n most) (or_left bytes o) ≡ Ok (digests, rest) → AreDigestsRead n (suc most) bytes digests rest
 one_read n most bytes digests rest None few back fits is e = absurd cc
 one_read n most bytes digests rest (Some x) few back fits is e =
     let h = read_is_digest n bytes x.0 x.1 few fits is in
@@ -189,7 +189,7 @@ one_read n most bytes digests rest (Some x) few back fits is e =
 test_read : (n most : ℕ) (bytes : List ℕ) (digests : List Digest) (rest : List ℕ) (b : Bool) → n < 16 → Back n most → AreBytes bytes
     → if_begins n most bytes b ≡ Ok (digests, rest) → AreDigestsRead n (suc most) bytes digests rest
 test_read n most bytes digests rest false few back fits e = none_read n (suc most) bytes digests rest fits e
-test_read n most bytes digests rest true few back fits e = one_read n most bytes digests rest (digest_at n bytes) few back fits refl e
+test_read n most bytes digests rest true few back fits e = one_read n most bytes digests rest (digest_field n bytes) few back fits refl e
 
 -- what is read as digests was written so
 pub read_are_digests : (n most : ℕ) (bytes : List ℕ) (digests : List Digest) (rest : List ℕ) → n < 16 → AreBytes bytes → digests_at n most bytes ≡ Ok (digests, rest)

@@ -12,10 +12,10 @@ use Rattle.proto_fields.proofs.GroupLemmas.{field_shorter}
 use Rattle.proto_fields.proofs.FieldLemmas.{no_fields, first_field}
 use Rattle.data_header.specs.Headers.{Roots}
 use Rattle.celestia_pb.specs.declared.extended.Extended.{Extended}
-use Rattle.celestia_pb.specs.Reading.{then_read, or_left, placed}
+use Rattle.celestia_pb.specs.Reading.{then_read, or_left, with_offset}
 use Rattle.celestia_pb.specs.Headers.{dah_left}
-use Rattle.celestia_pb.specs.Extended.{from_or, from_within, from_field, then_from, none_left, none_of, unless, the_one, bytes_before, lenient_part, with_rest, message_in, hash_size, if_hash, hash_at, data_hash_left, header_left, roots_left, once_at_most, both_read, besides, extended_left, extended_value}
-use Rattle.celestia_pb.specs.ExtendedLaws.{own_field, numbered, IsOnceAtMost, HasDataHash, IsExtended}
+use Rattle.celestia_pb.specs.Extended.{from_or, from_within, from_field, then_from, none_left, none_of, unless, one_field, bytes_of_value, lenient_part, with_rest, submessage, hash_size, if_hash, hash_front, data_hash_left, header_left, roots_left, once_at_most, both_read, besides, extended_left, extended_value}
+use Rattle.celestia_pb.specs.ExtendedLaws.{own_field, fields_numbered, IsOnceAtMost, HasDataHash, IsExtended}
 use Rattle.celestia_pb.proofs.Steps.{same_ok, cond_ok, then_ok, placed_ok}
 use Rattle.celestia_pb.proofs.ExtendedFields.{from-none, from-zero, from-next}
 
@@ -64,7 +64,7 @@ besides_ok (Err left) (Err other) x e = absurd cc
 -- the fields before the first one of a number, and that one if there is one
 record IsFound (n : ℕ) (bytes from : List ℕ) : Type 0 where
   before : List FieldParts
-  others : numbered n before ≡ []
+  others : fields_numbered n before ≡ []
   fields : (behind : List FieldParts) → fields_of from ≡ Some behind → fields_of bytes ≡ Some (before ++ behind)
   here : (from ≡ []) ⊎ ((x : FieldParts × List ℕ) × (field_at from ≡ Some x) × (x.0.number ≡ n))
 
@@ -115,7 +115,7 @@ found_within (suc more) n (byte ∷ bytes) from h =
 record HasNone (n : ℕ) (bytes : List ℕ) : Type 0 where
   fields : List FieldParts
   are : fields_of bytes ≡ Some fields
-  others : numbered n fields ≡ []
+  others : fields_numbered n fields ≡ []
 
 -- nothing was found
 found_none : (n : ℕ) (bytes from : List ℕ) → from_field n bytes ≡ Ok from → (length from == 0) ≡ true → HasNone n bytes
@@ -136,7 +136,7 @@ none_read n bytes right e =
 -- ---- one field of a number
 
 -- the bytes that a value is
-before_is : (value : ValueParts) (rest : List ℕ) (x : List ℕ × List ℕ) → bytes_before value rest ≡ Some x → (value ≡ bytes_value x.0) × (rest ≡ x.1)
+before_is : (value : ValueParts) (rest : List ℕ) (x : List ℕ × List ℕ) → bytes_of_value value rest ≡ Some x → (value ≡ bytes_value x.0) × (rest ≡ x.1)
 before_is (number_value number) rest x e = absurd cc
 before_is (bytes_value part) rest x e =
     let same = same_Some (part, rest) x e in
@@ -144,7 +144,7 @@ before_is (bytes_value part) rest x e =
 before_is other_value rest x e = absurd cc
 
 -- and that a field is
-part_is : (o : Option (FieldParts × List ℕ)) (x : List ℕ × List ℕ) → option_and_then (λ read. bytes_before read.0.value read.1) o ≡ Some x
+part_is : (o : Option (FieldParts × List ℕ)) (x : List ℕ × List ℕ) → option_and_then (λ read. bytes_of_value read.0.value read.1) o ≡ Some x
     → (read : FieldParts × List ℕ) × (o ≡ Some read) × (read.0.value ≡ bytes_value x.0) × (read.1 ≡ x.1)
 part_is None x e = absurd cc
 part_is (Some read) x e = let h = before_is read.0.value read.1 x e in (read, refl, h.0, h.1)
@@ -157,7 +157,7 @@ eqb_self n = grind (arith, nat_tests)
 record HasOne (n : ℕ) (bytes part : List ℕ) : Type 0 where
   fields : List FieldParts
   are : fields_of bytes ≡ Some fields
-  one : numbered n fields ≡ part_field n part ∷ []
+  one : fields_numbered n fields ≡ part_field n part ∷ []
 
 -- it is found where no other one is behind it
 found_one : (n : ℕ) (bytes from part rest : List ℕ) → from_field n bytes ≡ Ok from → lenient_part from ≡ Some (part, rest) → HasNone n rest → HasOne n bytes part
@@ -183,11 +183,11 @@ found_one n bytes from part rest h shown none =
 -- ---- the parts
 
 -- what the message in the one field of a number says
-message_one : {A : Type 0} (said : List ℕ → Result A ℕ) (n : ℕ) (bytes : List ℕ) (value : A) → the_one (message_in said) n bytes ≡ Ok value
+message_one : {A : Type 0} (said : List ℕ → Result A ℕ) (n : ℕ) (bytes : List ℕ) (value : A) → one_field (submessage said) n bytes ≡ Ok value
     → (part : List ℕ) × HasOne n bytes part × (said part ≡ Ok value)
 message_one {A} said n bytes value e =
-    let h = from_ok (λ (from : List ℕ). then_read (λ (v : A) (rest : List ℕ). unless v (none_of n rest)) (message_in said from)) (from_field n bytes) value e in
-    let r = then_ok (λ (v : A) (rest : List ℕ). unless v (none_of n rest)) (message_in said h.0) value h.2 in
+    let h = from_ok (λ (from : List ℕ). then_read (λ (v : A) (rest : List ℕ). unless v (none_of n rest)) (submessage said from)) (from_field n bytes) value e in
+    let r = then_ok (λ (v : A) (rest : List ℕ). unless v (none_of n rest)) (submessage said h.0) value h.2 in
     let u = unless_ok r.0.0 value (none_of n r.0.1) r.2 in
     let m = then_ok (λ (part rest : List ℕ). with_rest rest (said part)) (or_left h.0 (lenient_part h.0)) r.0 r.1 in
     let w = with_rest_ok m.0.1 r.0.1 (said m.0.0) r.0.0 m.2 in
@@ -198,10 +198,10 @@ message_one {A} said n bytes value e =
 -- the data hash of a block's header
 hash_one : (header hash : List ℕ) → data_hash_left header ≡ Ok hash → HasDataHash header hash
 hash_one header hash e =
-    let h = from_ok (λ (from : List ℕ). then_read (λ (v rest : List ℕ). unless v (none_of 7 rest)) (or_left from (hash_at from))) (from_field 7 header) hash e in
-    let r = then_ok (λ (v rest : List ℕ). unless v (none_of 7 rest)) (or_left h.0 (hash_at h.0)) hash h.2 in
+    let h = from_ok (λ (from : List ℕ). then_read (λ (v rest : List ℕ). unless v (none_of 7 rest)) (or_left from (hash_front from))) (from_field 7 header) hash e in
+    let r = then_ok (λ (v rest : List ℕ). unless v (none_of 7 rest)) (or_left h.0 (hash_front h.0)) hash h.2 in
     let u = unless_ok r.0.0 hash (none_of 7 r.0.1) r.2 in
-    let p = and_then_parts if_hash (lenient_part h.0) r.0 (or_left_ok h.0 (hash_at h.0) r.0 r.1) in
+    let p = and_then_parts if_hash (lenient_part h.0) r.0 (or_left_ok h.0 (hash_front h.0) r.0 r.1) in
     let t = cond_some (length p.0.0 == hash_size) p.0 r.0 p.2 in
     let shown : lenient_part h.0 ≡ Some (hash, r.0.1) =
     p.1 ∙ ap (λ (z : List ℕ × List ℕ). Some z) t.1 ∙ ap (λ (l : List ℕ). Some (l, r.0.1)) u.0 in
@@ -258,8 +258,8 @@ extended_fields bytes x e =
       one_header = header.1.one;
       data_hash = hash_one header.0 x.data_hash header.2;
       dah = dah.0;
-      one_dah = subst (λ (fields : List FieldParts). numbered 4 fields ≡ part_field 4 dah.0 ∷ []) (same dah.1.fields dah.1.are) dah.1.one;
-      roots = ap (placed (length dah.0)) dah.2;
+      one_dah = subst (λ (fields : List FieldParts). fields_numbered 4 fields ≡ part_field 4 dah.0 ∷ []) (same dah.1.fields dah.1.are) dah.1.one;
+      roots = ap (with_offset (length dah.0)) dah.2;
       commit = subst (λ (fields : List FieldParts). IsOnceAtMost 2 fields) (same commit.fields commit.are) commit.once;
       validators = subst (λ (fields : List FieldParts). IsOnceAtMost 3 fields) (same validators.fields validators.are) validators.once;
     }

@@ -9,10 +9,10 @@ use Rattle.proto_fields.proofs.Options.{map_parts}
 use Rattle.proto_fields.proofs.GroupLemmas.{field_shorter}
 use Rattle.proto_fields.proofs.FieldLemmas.{no_fields, no_field, first_field}
 use Rattle.celestia_pb.specs.declared.extended.Extended.{Extended}
-use Rattle.celestia_pb.specs.Reading.{then_read, or_left, placed}
+use Rattle.celestia_pb.specs.Reading.{then_read, or_left, with_offset}
 use Rattle.celestia_pb.specs.Headers.{dah_left}
-use Rattle.celestia_pb.specs.Extended.{from_field, then_from, none_left, none_of, unless, the_one, bytes_before, lenient_part, with_rest, message_in, hash_size, if_hash, hash_at, data_hash_left, header_left, roots_left, once_at_most, both_read, besides, extended_value}
-use Rattle.celestia_pb.specs.ExtendedLaws.{numbered, IsOnceAtMost, HasDataHash, IsExtended}
+use Rattle.celestia_pb.specs.Extended.{from_field, then_from, none_left, none_of, unless, one_field, bytes_of_value, lenient_part, with_rest, submessage, hash_size, if_hash, hash_front, data_hash_left, header_left, roots_left, once_at_most, both_read, besides, extended_value}
+use Rattle.celestia_pb.specs.ExtendedLaws.{fields_numbered, IsOnceAtMost, HasDataHash, IsExtended}
 use Rattle.celestia_pb.proofs.Steps.{placed_ok}
 use Rattle.celestia_pb.proofs.ExtendedFields.{from-none, from_here, from_behind}
 
@@ -26,7 +26,7 @@ record IsFirst (n : ℕ) (bytes : List ℕ) (field : FieldParts) (later : List F
   found : from_field n bytes ≡ Ok from
   front : field_at from ≡ Some (field, rest)
   are : fields_of rest ≡ Some after
-  others : numbered n after ≡ later
+  others : fields_numbered n after ≡ later
 
 -- of the fields of a number that are there, the first one is found
 abbrev AreThere : ℕ → List ℕ → List FieldParts → Type 0
@@ -41,8 +41,8 @@ there_behind n bytes rest (field ∷ later) same h =
 
 -- by whether the field at the front has the number
 there_front : (n : ℕ) (bytes : List ℕ) (read : FieldParts × List ℕ) (others : List FieldParts) (b : Bool) → field_at bytes ≡ Some read
-    → fields_of read.1 ≡ Some others → AreThere n read.1 (numbered n others) → (read.0.number == n) ≡ b
-    → AreThere n bytes (cond b (read.0 ∷ []) [] ++ numbered n others)
+    → fields_of read.1 ≡ Some others → AreThere n read.1 (fields_numbered n others) → (read.0.number == n) ≡ b
+    → AreThere n bytes (cond b (read.0 ∷ []) [] ++ fields_numbered n others)
 there_front n bytes read others true e are go is =
     record {
       from = bytes;
@@ -54,50 +54,50 @@ there_front n bytes read others true e are go is =
       others = refl;
     }
 there_front n bytes read others false e are go is =
-    there_behind n bytes read.1 (numbered n others) (from_behind n bytes read.1 read.0 e (false-eqb _ _ (sym is))) go
+    there_behind n bytes read.1 (fields_numbered n others) (from_behind n bytes read.1 read.0 e (false-eqb _ _ (sym is))) go
 
 there_next : (n byte : ℕ) (bytes : List ℕ) (fields : List FieldParts)
-    → ((behind : List ℕ) (others : List FieldParts) → length behind < length (byte ∷ bytes) → fields_of behind ≡ Some others → AreThere n behind (numbered n others))
-    → (o : Option (FieldParts × List ℕ)) → field_at (byte ∷ bytes) ≡ o → fields_of (byte ∷ bytes) ≡ Some fields → AreThere n (byte ∷ bytes) (numbered n fields)
+    → ((behind : List ℕ) (others : List FieldParts) → length behind < length (byte ∷ bytes) → fields_of behind ≡ Some others → AreThere n behind (fields_numbered n others))
+    → (o : Option (FieldParts × List ℕ)) → field_at (byte ∷ bytes) ≡ o → fields_of (byte ∷ bytes) ≡ Some fields → AreThere n (byte ∷ bytes) (fields_numbered n fields)
 there_next n byte bytes fields go None e are = absurd (none-some fields (sym (no_field byte bytes e) ∙ are))
 there_next n byte bytes fields go (Some read) e are =
     let h = map_parts (λ (some : List FieldParts). read.0 ∷ some) (fields_of read.1) fields (sym (first_field (byte ∷ bytes) read.1 read.0 e) ∙ are) in
-    subst (λ (all : List FieldParts). AreThere n (byte ∷ bytes) (numbered n all)) h.2
+    subst (λ (all : List FieldParts). AreThere n (byte ∷ bytes) (fields_numbered n all)) h.2
     (there_front n (byte ∷ bytes) read h.0 (read.0.number == n) e h.1 (go read.1 h.0 (field_shorter (byte ∷ bytes) read e) h.1) refl)
 
-there_by : (more n : ℕ) (bytes : List ℕ) (fields : List FieldParts) → length bytes ≤ more → fields_of bytes ≡ Some fields → AreThere n bytes (numbered n fields)
+there_by : (more n : ℕ) (bytes : List ℕ) (fields : List FieldParts) → length bytes ≤ more → fields_of bytes ≡ Some fields → AreThere n bytes (fields_numbered n fields)
 there_by more n [] fields few are =
-    subst (λ (all : List FieldParts). AreThere n [] (numbered n all)) (same_Some [] fields (sym no_fields ∙ are)) (from-none 0 n)
+    subst (λ (all : List FieldParts). AreThere n [] (fields_numbered n all)) (same_Some [] fields (sym no_fields ∙ are)) (from-none 0 n)
 there_by zero n (byte ∷ bytes) fields few are = absurd (omega arith)
 there_by (suc more) n (byte ∷ bytes) fields few are =
     there_next n byte bytes fields (λ behind others less e. there_by more n behind others (omega arith) e) (field_at (byte ∷ bytes)) refl are
 
 -- so of all fields
-there : (n : ℕ) (bytes : List ℕ) (fields found : List FieldParts) → fields_of bytes ≡ Some fields → numbered n fields ≡ found → AreThere n bytes found
+there : (n : ℕ) (bytes : List ℕ) (fields found : List FieldParts) → fields_of bytes ≡ Some fields → fields_numbered n fields ≡ found → AreThere n bytes found
 there n bytes fields found are is = subst (λ (l : List FieldParts). AreThere n bytes l) is (there_by (length bytes) n bytes fields (omega arith) are)
 
 -- ---- what is read of them
 
 -- no other one is refused
-none_is : (n : ℕ) (bytes : List ℕ) (fields : List FieldParts) → fields_of bytes ≡ Some fields → numbered n fields ≡ [] → none_of n bytes ≡ Ok tt
+none_is : (n : ℕ) (bytes : List ℕ) (fields : List FieldParts) → fields_of bytes ≡ Some fields → fields_numbered n fields ≡ [] → none_of n bytes ≡ Ok tt
 none_is n bytes fields are none = ap (then_from none_left) (there n bytes fields [] are none)
 
 -- one that is bytes is shown, and no other one is behind it
 module _ (n : ℕ) (bytes part : List ℕ) (first : IsFirst n bytes (part_field n part) []) where
   part_shown : lenient_part first.from ≡ Some (part, first.rest)
-  part_shown = ap (option_and_then (λ (read : FieldParts × List ℕ). bytes_before read.0.value read.1)) first.front
+  part_shown = ap (option_and_then (λ (read : FieldParts × List ℕ). bytes_of_value read.0.value read.1)) first.front
 
   none_behind : none_of n first.rest ≡ Ok tt
   none_behind = none_is n first.rest first.after first.are first.others
 
 -- the message in the one field of a number is read
 message_is : {A : Type 0} (said : List ℕ → Result A ℕ) (n : ℕ) (bytes : List ℕ) (fields : List FieldParts) (part : List ℕ) (value : A)
-    → fields_of bytes ≡ Some fields → numbered n fields ≡ part_field n part ∷ [] → said part ≡ Ok value → the_one (message_in said) n bytes ≡ Ok value
+    → fields_of bytes ≡ Some fields → fields_numbered n fields ≡ part_field n part ∷ [] → said part ≡ Ok value → one_field (submessage said) n bytes ≡ Ok value
 message_is {A} said n bytes fields part value are one says =
     let first : IsFirst n bytes (part_field n part) [] = there n bytes fields (part_field n part ∷ []) are one in
     let next : A → List ℕ → Result A ℕ = λ v rest. unless v (none_of n rest) in
     let inside : List ℕ → List ℕ → Result (A × List ℕ) ℕ = λ l rest. with_rest rest (said l) in
-    ap (then_from (λ (from : List ℕ). then_read next (message_in said from))) first.found
+    ap (then_from (λ (from : List ℕ). then_read next (submessage said from))) first.found
     ∙ ap (λ (o : Option (List ℕ × List ℕ)). then_read next (then_read inside (or_left first.from o))) (part_shown n bytes part first)
     ∙ ap (λ (r : Result A ℕ). then_read next (with_rest first.rest r)) says
     ∙ ap (unless value) (none_behind n bytes part first)
@@ -109,7 +109,7 @@ hash_is header hash is =
     let next : List ℕ → List ℕ → Result (List ℕ) ℕ = λ v rest. unless v (none_of 7 rest) in
     let size : length hash ≡ hash_size = is.size in
     let test : (length hash == hash_size) ≡ true = grind (arith, nat_tests) in
-    ap (then_from (λ (from : List ℕ). then_read next (or_left from (hash_at from)))) first.found
+    ap (then_from (λ (from : List ℕ). then_read next (or_left from (hash_front from)))) first.found
     ∙ ap (λ (o : Option (List ℕ × List ℕ)). then_read next (or_left first.from (option_and_then if_hash o))) (part_shown 7 header hash first)
     ∙ ap (λ (b : Bool). then_read next (or_left first.from (cond b (Some (hash, first.rest)) None))) test
     ∙ ap (unless hash) (none_behind 7 header hash first)
@@ -145,4 +145,4 @@ fields_extended bytes x is =
     message_is dah_left 4 bytes is.fields is.dah x.roots is.are is.one_dah (placed_ok (length is.dah) (dah_left is.dah) x.roots is.roots) in
     let commit = once_is 2 bytes is.fields is.are is.commit in
     let validators = once_is 3 bytes is.fields is.are is.validators in
-    ap (placed (length bytes)) (ap₂ besides (ap₂ besides (ap₂ both_read header roots) commit) validators)
+    ap (with_offset (length bytes)) (ap₂ besides (ap₂ besides (ap₂ both_read header roots) commit) validators)

@@ -18,9 +18,9 @@ use Rattle.proto_fields.proofs.CanonicalLemmas.{number_fields_of, part_fields_of
 use Rattle.celestia_pb.specs.ShareLists.{share_behind}
 use Rattle.celestia_pb.specs.declared.half_row.Side.{Side}
 use Rattle.celestia_pb.specs.declared.half_row.Side.TheVariants.{Left, Right}
-use Rattle.celestia_pb.specs.Reading.{then_read, or_left, placed}
-use Rattle.celestia_pb.specs.Samples.{share_text}
-use Rattle.celestia_pb.specs.RowShares.{shares_text, shares_at, shares_in}
+use Rattle.celestia_pb.specs.Reading.{then_read, or_left, with_offset}
+use Rattle.celestia_pb.specs.Samples.{share_message}
+use Rattle.celestia_pb.specs.RowShares.{shares_text, shares_at, tagged_shares}
 use Rattle.celestia_pb.specs.HalfRows.{HalfParts, IsHalf, side_number, half_row_text, side_of, side_at, half_row_end, half_row_side, half_row_left, half_row_value}
 use Rattle.celestia_pb.proofs.Steps.{cond_ok, then_ok, placed_ok}
 use Rattle.celestia_pb.proofs.MessageLemmas.{field_few, begins_number}
@@ -33,7 +33,7 @@ use Rattle.celestia_pb.proofs.EntryListLemmas.{length-entries}
 -- ---- what is written is read
 
 -- the message of a share is short
-share_short : (share : Share) → length share.0 ≡ 512 → length (share_text share) ≤ 532
+share_short : (share : Share) → length share.0 ≡ 512 → length (share_message share) ≤ 532
 share_short share size = omega (arith, size, field_few 1 share.0)
 
 -- the number of a side, behind which nothing follows
@@ -58,7 +58,7 @@ left_is_read h is are =
     ∙ ap (λ (b : Bool). cond ((0 == 0) && b) (Ok h) (Err 0)) is.width
 
 pub half_row_is_read : (h : HalfParts) → IsHalf h → AreShares h.shares → half_row_value (half_row_text h) ≡ Ok h
-half_row_is_read h is are = ap (placed (length (half_row_text h))) (left_is_read h is are)
+half_row_is_read h is are = ap (with_offset (length (half_row_text h))) (left_is_read h is are)
 
 -- a share as a message in its field has 518 bytes
 pub entry_size : field_size 1 (field_size 1 512) ≡ 518
@@ -127,22 +127,22 @@ read_is_half_row bytes h fits e = let was = was_read bytes h fits e in ((was.is,
 
 -- the fields of shares
 abbrev share_fields : List Share → List FieldParts
-share_fields shares = map (λ (share : Share). part_field 1 (share_text share)) shares
+share_fields shares = map (λ (share : Share). part_field 1 (share_message share)) shares
 
 -- shares that were written are these fields, and then those that follow
 share_fields_of : (shares : List Share) (rest : List ℕ) (fields : List FieldParts) → AreShares shares → fields_of rest ≡ Some fields
     → fields_of (shares_text shares ++ rest) ≡ Some (share_fields shares ++ fields)
 share_fields_of [] rest fields all others = others
 share_fields_of (share ∷ shares) rest fields all others =
-    let short : length (share_text share) ≤ 532 = share_short share all.0.size_is in
+    let short : length (share_message share) ≤ 532 = share_short share all.0.size_is in
     ap fields_of (shares_text-next share shares rest)
-    ∙ part_fields_of 1 (share_text share) (shares_text shares ++ rest) (share_fields shares ++ fields) (omega arith) (omega arith) (omega arith)
+    ∙ part_fields_of 1 (share_message share) (shares_text shares ++ rest) (share_fields shares ++ fields) (omega arith) (omega arith) (omega arith)
     (share_fields_of shares rest fields all.1 others)
 
 -- all of them are bytes
-own_shares : (shares : List Share) → all_bytes 1 (share_fields shares) ≡ map share_text shares
+own_shares : (shares : List Share) → all_bytes 1 (share_fields shares) ≡ map share_message shares
 own_shares [] = refl
-own_shares (share ∷ shares) = ap (λ (l : List (List ℕ)). share_text share ∷ l) (own_shares shares)
+own_shares (share ∷ shares) = ap (λ (l : List (List ℕ)). share_message share ∷ l) (own_shares shares)
 
 no_numbers : (shares : List Share) → all_numbers 2 (share_fields shares) ≡ []
 no_numbers [] = refl
@@ -155,7 +155,7 @@ side_fields Right =
     ap fields_of (sym (append-nil (number_text 2 1))) ∙ number_fields_of 2 1 [] [] (omega arith) (omega arith) (omega arith) no_fields
 
 pub half_row_is_common : (bytes : List ℕ) (h : HalfParts) → AreBytes bytes → half_row_value bytes ≡ Ok h
-    → (fields : List FieldParts) × (fields_of bytes ≡ Some fields) × (all_bytes 1 fields ≡ map share_text h.shares) × (last_number 2 fields ≡ side_number h.side)
+    → (fields : List FieldParts) × (fields_of bytes ≡ Some fields) × (all_bytes 1 fields ≡ map share_message h.shares) × (last_number 2 fields ≡ side_number h.side)
 half_row_is_common bytes h fits e =
     let was = was_read bytes h fits e in
     let side : List FieldParts = number_fields 2 (side_number h.side) in
@@ -164,7 +164,7 @@ half_row_is_common bytes h fits e =
       ap fields_of was.text ∙ share_fields_of h.shares (number_text 2 (side_number h.side)) (side ++ []) was.are (side_fields h.side),
       all_bytes_in_a_row 1 (share_fields h.shares) (side ++ [])
           ∙ ap₂ (λ (x y : List (List ℕ)). x ++ y) (own_shares h.shares) (ap (all_bytes 1) behind ∙ number_bytes 2 1 (side_number h.side))
-          ∙ append-nil (map share_text h.shares),
+          ∙ append-nil (map share_message h.shares),
       ap (last_of 0) (all_numbers_in_a_row 2 (share_fields h.shares) (side ++ [])
           ∙ ap₂ (λ (x y : List ℕ). x ++ y) (no_numbers h.shares) (ap (all_numbers 2) behind))
           ∙ own_number 2 (side_number h.side),
@@ -172,21 +172,21 @@ half_row_is_common bytes h fits e =
 
 -- ---- what the calls find
 
-module _ (bytes behind : List ℕ) (count : ℕ) (first : shares_at 512 bytes ≡ Ok (shares_in count bytes, behind)) (side : Side) (rest : List ℕ)
+module _ (bytes behind : List ℕ) (count : ℕ) (first : shares_at 512 bytes ≡ Ok (tagged_shares count bytes, behind)) (side : Side) (rest : List ℕ)
     (second : side_at behind ≡ Some (side, rest)) where
   -- the test of what was found
   behind_side : (b : Bool) → ((length rest == 0) && is_width count) ≡ b
-      → half_row_left bytes ≡ cond b (Ok (record { side = side; shares = shares_in count bytes })) (Err (length rest))
+      → half_row_left bytes ≡ cond b (Ok (record { side = side; shares = tagged_shares count bytes })) (Err (length rest))
   behind_side b test =
       ap (then_read half_row_side) first
-      ∙ ap (λ (o : Option (Side × List ℕ)). then_read (half_row_end (shares_in count bytes)) (or_left behind o)) second
-      ∙ ap (λ (n : ℕ). cond ((length rest == 0) && is_width n) (Ok (record { side = side; shares = shares_in count bytes })) (Err (length rest))) (length-entries (share_behind 6) 518 count bytes)
-      ∙ ap (λ (c : Bool). cond c (Ok (record { side = side; shares = shares_in count bytes })) (Err (length rest))) test
+      ∙ ap (λ (o : Option (Side × List ℕ)). then_read (half_row_end (tagged_shares count bytes)) (or_left behind o)) second
+      ∙ ap (λ (n : ℕ). cond ((length rest == 0) && is_width n) (Ok (record { side = side; shares = tagged_shares count bytes })) (Err (length rest))) (length-entries (share_behind 6) 518 count bytes)
+      ∙ ap (λ (c : Bool). cond c (Ok (record { side = side; shares = tagged_shares count bytes })) (Err (length rest))) test
 
   -- something is left, or the number is no width
   pub wrong_end : ((length rest == 0) && is_width count) ≡ false → half_row_left bytes ≡ Err (length rest)
   wrong_end test = behind_side false test
 
   -- half a row
-  pub right_end : ((length rest == 0) && is_width count) ≡ true → half_row_left bytes ≡ Ok (record { side = side; shares = shares_in count bytes })
+  pub right_end : ((length rest == 0) && is_width count) ≡ true → half_row_left bytes ≡ Ok (record { side = side; shares = tagged_shares count bytes })
   right_end test = behind_side true test

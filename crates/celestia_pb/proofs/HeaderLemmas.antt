@@ -10,7 +10,7 @@ use Rattle.namespace_id.proofs.WidthLemmas.{is_width-le}
 use Rattle.data_header.specs.Headers.{Roots, IsHeader}
 use Rattle.proto_fields.specs.Fields.{FieldParts, fields_of, all_bytes}
 use Rattle.proto_fields.proofs.FieldLemmas.{no_fields, all_bytes_in_a_row}
-use Rattle.celestia_pb.specs.Reading.{then_read, placed}
+use Rattle.celestia_pb.specs.Reading.{then_read, with_offset}
 use Rattle.celestia_pb.specs.Digests.{digests_text, digests_at, digests_in, entry_digest}
 use Rattle.celestia_pb.proofs.Steps.{cond_ok, placed_ok, then_ok}
 use Rattle.proto_fields.specs.Canonical.{begins}
@@ -52,7 +52,7 @@ left_is_read h is =
     ∙ end_is h is
 
 pub dah_is_read : (h : Roots) → IsHeader h → dah_value (dah_text h) ≡ Ok h
-dah_is_read h is = ap (placed (length (dah_text h))) (left_is_read h is)
+dah_is_read h is = ap (with_offset (length (dah_text h))) (left_is_read h is)
 
 -- how many bytes it has
 pub length-dah_text : (h : Roots) → IsHeader h → length (dah_text h) ≡ 368 * h.k

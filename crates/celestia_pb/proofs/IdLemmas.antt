@@ -12,9 +12,9 @@ use Rattle.namespace_id.specs.declared.namespaces.Namespace.{Namespace}
 use Rattle.namespace_id.specs.Bytes.{AreBytes}
 use Rattle.namespace_id.specs.Names.{IsNamespace}
 use Rattle.proto_fields.proofs.CanonicalVarints.{front_fits, behind_fits}
-use Rattle.celestia_pb.specs.Reading.{then_read, or_left, placed}
+use Rattle.celestia_pb.specs.Reading.{then_read, or_left, with_offset}
 use Rattle.celestia_pb.specs.Samples.{IsCell}
-use Rattle.celestia_pb.specs.Ids.{sample_id_text, namespace_id_text, behind_height, short_at, name_at, id_end, after_height, id_cell, id_col, id_row, id_name, sample_id_left, namespace_id_left, sample_id_value, namespace_id_value}
+use Rattle.celestia_pb.specs.Ids.{sample_id_text, namespace_id_text, behind_height, short_at, name_front, id_end, after_height, id_cell, id_col, id_row, id_name, sample_id_left, namespace_id_left, sample_id_value, namespace_id_value}
 use Rattle.celestia_pb.proofs.Steps.{cond_ok, then_ok, placed_ok, same_ok}
 
 -- ---- so many bytes at the front
@@ -48,7 +48,7 @@ short_is_read n rest lt =
     ∙ ap (λ (m : ℕ). Some (m, rest)) (from_be_bytes-to_be_bytes_2 n lt)
 
 -- a namespace
-name_is_read : (name : Namespace) (rest : List ℕ) → length name.0 ≡ 29 → name_at (name.0 ++ rest) ≡ Some (name, rest)
+name_is_read : (name : Namespace) (rest : List ℕ) → length name.0 ≡ 29 → name_front (name.0 ++ rest) ≡ Some (name, rest)
 name_is_read name rest len =
     ap (λ (b : Bool). cond b (Some (record { 0 = take 29 (name.0 ++ rest) }, drop 29 (name.0 ++ rest))) None) (front_there 29 name.0 rest len)
     ∙ ap₂ (λ (f r : List ℕ). Some (record { 0 = f }, r)) (take_at name.0 rest 29 len) (drop_at name.0 rest 29 len)
@@ -63,17 +63,17 @@ sample_left_is_read height cell is =
     ∙ ap (λ (o : Option (ℕ × List ℕ)). then_read (id_cell cell.row) (or_left col o)) (ap short_at whole ∙ short_is_read cell.col [] is.col)
 
 pub sample_id_is_read : (height : ℕ) (cell : Cell) → IsCell cell → sample_id_value height (sample_id_text height cell) ≡ Ok cell
-sample_id_is_read height cell is = ap (placed (length (sample_id_text height cell))) (sample_left_is_read height cell is)
+sample_id_is_read height cell is = ap (with_offset (length (sample_id_text height cell))) (sample_left_is_read height cell is)
 
 -- the identifier of a namespace
 name_left_is_read : (height : ℕ) (name : Namespace) → IsNamespace name → namespace_id_left height (namespace_id_text height name) ≡ Ok name
 name_left_is_read height name is =
     let whole : name.0 ≡ name.0 ++ [] = sym (append-nil name.0) in
     ap (after_height id_name (namespace_id_text height name)) (height_is_read height name.0)
-    ∙ ap (λ (o : Option (Namespace × List ℕ)). then_read id_end (or_left name.0 o)) (ap name_at whole ∙ name_is_read name [] is.size_is)
+    ∙ ap (λ (o : Option (Namespace × List ℕ)). then_read id_end (or_left name.0 o)) (ap name_front whole ∙ name_is_read name [] is.size_is)
 
 pub namespace_id_is_read : (height : ℕ) (name : Namespace) → IsNamespace name → namespace_id_value height (namespace_id_text height name) ≡ Ok name
-namespace_id_is_read height name is = ap (placed (length (namespace_id_text height name))) (name_left_is_read height name is)
+namespace_id_is_read height name is = ap (with_offset (length (namespace_id_text height name))) (name_left_is_read height name is)
 
 -- ---- what is read was written
 
@@ -124,7 +124,7 @@ short_back bytes x fits e =
     )
 
 -- a namespace was there
-name_back : (bytes : List ℕ) (x : Namespace × List ℕ) → AreBytes bytes → name_at bytes ≡ Some x → IsNamespace x.0 × (bytes ≡ x.0.0 ++ x.1)
+name_back : (bytes : List ℕ) (x : Namespace × List ℕ) → AreBytes bytes → name_front bytes ≡ Some x → IsNamespace x.0 × (bytes ≡ x.0.0 ++ x.1)
 name_back bytes x fits e =
     let h = cond_some (leb 29 (length bytes)) (record { 0 = take 29 bytes }, drop 29 bytes) x e in
     let len : length (take 29 bytes) ≡ 29 = length-take-le 29 bytes (leb-true 29 (length bytes) h.0) in
@@ -168,8 +168,8 @@ pub read_is_namespace_id : (height : ℕ) (bytes : List ℕ) (name : Namespace) 
 read_is_namespace_id height bytes name fits e =
     let a = after_back id_name height bytes name (behind_height height bytes) refl (placed_ok (length bytes) (namespace_id_left height bytes) name e) in
     let rest_fits : AreBytes a.0 = behind_fits (to_be_bytes w64 height) a.0 (subst (λ (l : List ℕ). AreBytes l) a.1 fits) in
-    let r = then_ok id_end (or_left a.0 (name_at a.0)) name a.2 in
-    let h = name_back a.0 r.0 rest_fits (or_left_some a.0 (name_at a.0) r.0 r.1) in
+    let r = then_ok id_end (or_left a.0 (name_front a.0)) name a.2 in
+    let h = name_back a.0 r.0 rest_fits (or_left_some a.0 (name_front a.0) r.0 r.1) in
     let last = end_back r.0.0 name r.0.1 r.2 in (
       subst (λ (m : Namespace). IsNamespace m) last.1 h.0,
       a.1

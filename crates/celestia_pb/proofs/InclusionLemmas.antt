@@ -10,7 +10,7 @@ use Rattle.proto_fields.specs.Canonical.{number_text, begins}
 use Rattle.celestia_pb.specs.Reading.{then_read}
 use Rattle.celestia_pb.specs.Digests.{digests_text, digests_at}
 use Rattle.celestia_pb.specs.Messages.{number_left}
-use Rattle.celestia_pb.specs.Inclusions.{inclusion_text, is_start, first_place, is_stop, is_flag, is_whole, inclusion_end, inclusion_flag, inclusion_nodes, inclusion_stop, inclusion_left}
+use Rattle.celestia_pb.specs.Inclusions.{inclusion_text, is_place_stated, place_stated, is_stop, is_flag, is_whole, inclusion_end, inclusion_flag, inclusion_nodes, inclusion_stop, inclusion_left}
 use Rattle.celestia_pb.proofs.Steps.{cond_ok, then_ok}
 use Rattle.celestia_pb.proofs.DigestLemmas.{begins_digests, digests_are_read, read_are_digests}
 use Rattle.celestia_pb.proofs.EntryLemmas.{length-digests_text}
@@ -42,7 +42,7 @@ inclusion_few start count nodes all =
     )
 
 -- the proof of so many leaves is read back, where it is wanted so
-pub inclusion_is_read : (wanted : Option ℕ) (start count most : ℕ) (nodes : List Digest) → first_place wanted start ≡ start → is_start wanted start ≡ true
+pub inclusion_is_read : (wanted : Option ℕ) (start count most : ℕ) (nodes : List Digest) → place_stated wanted start ≡ start → is_place_stated wanted start ≡ true
     → start + count < 2 ^ 64 → AreDigests nodes → length nodes ≤ most → inclusion_left wanted count most (inclusion_text start count nodes) ≡ Ok (start, nodes)
 inclusion_is_read wanted start count most nodes same right lt all few =
     let stop : ℕ = start + count in
@@ -54,11 +54,11 @@ inclusion_is_read wanted start count most nodes same right lt all few =
     let none16 : begins 16 t3 ≡ false = begins_digests 16 3 nodes t5 (omega arith) refl (ap (begins 16) end5 ∙ begins_number 16 5 1 [] (omega arith) refl refl) in
     let none8 : begins 8 t2 ≡ false =
     begins_number 8 2 stop t3 (omega arith) refl (begins_digests 8 3 nodes t5 (omega arith) refl (ap (begins 8) end5 ∙ begins_number 8 5 1 [] (omega arith) refl refl)) in
-    let stops : is_stop (first_place wanted start) count stop ≡ true = ap (λ (p : ℕ). is_stop p count stop) same ∙ or_self stop in
-    let whole : is_whole (first_place wanted start) count start stop 1 0 ≡ true =
+    let stops : is_stop (place_stated wanted start) count stop ≡ true = ap (λ (p : ℕ). is_stop p count stop) same ∙ or_self stop in
+    let whole : is_whole (place_stated wanted start) count start stop 1 0 ≡ true =
     ap (λ (p : ℕ). is_whole p count start stop 1 0) same ∙ and_from _ _ (eqb_self start) (and_from _ _ (eqb_self stop) refl) in
-    ap (then_read (inclusion_stop wanted count most)) (number_left_is_read (is_start wanted) 1 start t2 right (omega arith) (omega arith) none8)
-    ∙ ap (then_read (inclusion_nodes wanted count most start)) (number_left_is_read (is_stop (first_place wanted start) count) 2 stop t3 stops (omega arith) lt none16)
+    ap (then_read (inclusion_stop wanted count most)) (number_left_is_read (is_place_stated wanted) 1 start t2 right (omega arith) (omega arith) none8)
+    ∙ ap (then_read (inclusion_nodes wanted count most start)) (number_left_is_read (is_stop (place_stated wanted start) count) 2 stop t3 stops (omega arith) lt none16)
     ∙ ap (then_read (inclusion_flag wanted count start stop)) (digests_are_read 3 most nodes t5 (omega arith) all few none26)
     ∙ ap (inclusion_flag wanted count start stop nodes) end5
     ∙ ap (then_read (inclusion_end wanted count start stop nodes)) (number_left_is_read is_flag 5 1 [] refl (omega arith) (omega arith) refl)
@@ -68,7 +68,7 @@ inclusion_is_read wanted start count most nodes same right lt all few =
 
 -- what is read as a proof
 pub record IsInclusionRead (wanted : Option ℕ) (count most : ℕ) (bytes : List ℕ) (start : ℕ) (nodes : List Digest) : Type 0 where
-  pub place : first_place wanted start ≡ start
+  pub place : place_stated wanted start ≡ start
   pub short : start + count < 2 ^ 64
   pub few : length nodes ≤ most
   pub are : AreDigests nodes
@@ -78,10 +78,10 @@ pub record IsInclusionRead (wanted : Option ℕ) (count most : ℕ) (bytes : Lis
 pub inclusion_back : (wanted : Option ℕ) (count most : ℕ) (bytes : List ℕ) (x : ℕ × List Digest) → AreBytes bytes → inclusion_left wanted count most bytes ≡ Ok x
     → IsInclusionRead wanted count most bytes x.0 x.1
 inclusion_back wanted count most bytes x fits e =
-    let s = then_ok (inclusion_stop wanted count most) (number_left (is_start wanted) 1 bytes) x e in
+    let s = then_ok (inclusion_stop wanted count most) (number_left (is_place_stated wanted) 1 bytes) x e in
     let start : ℕ = s.0.0 in
-    let place : ℕ = first_place wanted start in
-    let n1 = number_left_back (is_start wanted) 1 bytes s.0 (omega arith) fits s.1 in
+    let place : ℕ = place_stated wanted start in
+    let n1 = number_left_back (is_place_stated wanted) 1 bytes s.0 (omega arith) fits s.1 in
     let t = then_ok (inclusion_nodes wanted count most start) (number_left (is_stop place count) 2 s.0.1) x s.2 in
     let stop : ℕ = t.0.0 in
     let n2 = number_left_back (is_stop place count) 2 s.0.1 t.0 (omega arith) n1.fits t.1 in

@@ -9,7 +9,7 @@ use Rattle.proto_fields.proofs.Varint.Bytes.{length-varint}
 use Rattle.proto_fields.proofs.CanonicalVarints.{front_fits, behind_fits}
 use Rattle.proto_fields.proofs.CanonicalLemmas.{number_field-is, number_text-some, number_is_read, read_is_number, part_read_back, read_is_part_field}
 use Rattle.celestia_pb.specs.Reading.{or_left}
-use Rattle.celestia_pb.specs.Messages.{passing, number_left, before_rest, inside, message_at}
+use Rattle.celestia_pb.specs.Messages.{passing, number_left, before_rest, inside, optional_message}
 use Rattle.celestia_pb.proofs.Steps.{same_ok, cond_ok}
 use Rattle.celestia_pb.proofs.Fronts.{begins_own}
 use Rattle.celestia_pb.proofs.DigestLemmas.{field_fits}
@@ -97,21 +97,21 @@ module _ {A : Type 0} (one : List ℕ → List ℕ → Result A ℕ) (n : ℕ) w
   if_there bytes b = cond b (inside one (or_left bytes (canonical_part n bytes))) (Ok (None, bytes))
 
   -- it isn't there
-  pub message_none : (bytes : List ℕ) → begins_part n bytes ≡ false → message_at one n bytes ≡ Ok (None, bytes)
+  pub message_none : (bytes : List ℕ) → begins_part n bytes ≡ false → optional_message one n bytes ≡ Ok (None, bytes)
   message_none bytes none = ap (if_there bytes) none
 
   -- its length is wrong
-  pub message_wrong : (bytes : List ℕ) → begins_part n bytes ≡ true → canonical_part n bytes ≡ None → message_at one n bytes ≡ Err (length bytes)
+  pub message_wrong : (bytes : List ℕ) → begins_part n bytes ≡ true → canonical_part n bytes ≡ None → optional_message one n bytes ≡ Err (length bytes)
   message_wrong bytes there e = ap (if_there bytes) there ∙ ap (λ (o : Option (List ℕ × List ℕ)). inside one (or_left bytes o)) e
 
   -- it is there
   pub message_some : (bytes part rest : List ℕ) → begins_part n bytes ≡ true → canonical_part n bytes ≡ Some (part, rest)
-      → message_at one n bytes ≡ before_rest rest (one rest part)
+      → optional_message one n bytes ≡ before_rest rest (one rest part)
   message_some bytes part rest there e = ap (if_there bytes) there ∙ ap (λ (o : Option (List ℕ × List ℕ)). inside one (or_left bytes o)) e
 
   -- it is read back, whatever follows
   pub message_is_read : (part rest : List ℕ) (value : A) → n < 16 → length part < 2 ^ 64 → one rest part ≡ Ok value
-      → message_at one n (bytes_field n part ++ rest) ≡ Ok (Some value, rest)
+      → optional_message one n (bytes_field n part ++ rest) ≡ Ok (Some value, rest)
   message_is_read part rest value few lt e =
       message_some (bytes_field n part ++ rest) part rest (begins_own n part rest few) (part_read_back n part rest few lt) ∙ ap (before_rest rest) e
 
@@ -153,7 +153,7 @@ module _ {A : Type 0} (one : List ℕ → List ℕ → Result A ℕ) (n : ℕ) w
   there_parts bytes value rest true few fits e = inside_parts bytes value rest (canonical_part n bytes) few fits refl e
 
   -- what is read as a message was written so
-  pub message_back : (bytes : List ℕ) (value : A) (rest : List ℕ) → n < 16 → AreBytes bytes → message_at one n bytes ≡ Ok (Some value, rest) → IsMessageRead bytes value rest
+  pub message_back : (bytes : List ℕ) (value : A) (rest : List ℕ) → n < 16 → AreBytes bytes → optional_message one n bytes ≡ Ok (Some value, rest) → IsMessageRead bytes value rest
   message_back bytes value rest few fits e = there_parts bytes value rest (begins_part n bytes) few fits e
 
   -- a message that was read isn't none
@@ -170,5 +170,5 @@ module _ {A : Type 0} (one : List ℕ → List ℕ → Result A ℕ) (n : ℕ) w
   none_there bytes rest true e = absurd (none_inside rest (or_left bytes (canonical_part n bytes)) e)
 
   -- where none is read all is left
-  pub message_absent : (bytes rest : List ℕ) → message_at one n bytes ≡ Ok (None, rest) → rest ≡ bytes
+  pub message_absent : (bytes rest : List ℕ) → optional_message one n bytes ≡ Ok (None, rest) → rest ≡ bytes
   message_absent bytes rest e = none_there bytes rest (begins_part n bytes) e

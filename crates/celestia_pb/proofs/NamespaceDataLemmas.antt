@@ -7,10 +7,10 @@ use Rattle.proto_fields.specs.Spelled.{text}
 use Rattle.proto_fields.specs.Canonical.{part_at}
 use Rattle.proto_fields.proofs.CanonicalVarints.{front_fits, behind_fits, part_is_read, read_is_part}
 use Rattle.axis_roots.specs.declared.answers.NsEntry.{NsEntry}
-use Rattle.celestia_pb.specs.Reading.{then_read, or_left, placed}
-use Rattle.celestia_pb.specs.RowData.{found_text, row_left}
-use Rattle.celestia_pb.specs.RowDataLaws.{HasMessage}
-use Rattle.celestia_pb.specs.NamespaceData.{entry_text, namespace_data_text, entry_before, entry_at, with_entry, entries_left, namespace_data_value, rows_of, HaveMessages}
+use Rattle.celestia_pb.specs.Reading.{then_read, or_left, with_offset}
+use Rattle.celestia_pb.specs.RowData.{found_message, row_left}
+use Rattle.celestia_pb.specs.RowDataLaws.{FoundHasMessage}
+use Rattle.celestia_pb.specs.NamespaceData.{ns_entry_text, namespace_data_text, entry_before, entry_at, with_entry, entries_left, namespace_data_value, rows_of, HaveMessages}
 use Rattle.celestia_pb.proofs.Steps.{same_ok, cond_ok, then_ok, placed_ok}
 use Rattle.celestia_pb.proofs.SampleLemmas.{or_left_some}
 use Rattle.celestia_pb.proofs.RowDataLemmas.{row_is_read, found_small, row_back}
@@ -46,10 +46,10 @@ entry_at-some row bytes part rest r there is =
 -- ---- what is written is read
 
 -- the message of an entry, whatever follows
-entry_is_read : (entry : NsEntry) (rest : List ℕ) → HasMessage entry.found → entry_at entry.row (entry_text entry ++ rest) ≡ Ok (entry, rest)
+entry_is_read : (entry : NsEntry) (rest : List ℕ) → FoundHasMessage entry.found → entry_at entry.row (ns_entry_text entry ++ rest) ≡ Ok (entry, rest)
 entry_is_read entry rest has =
-    let message : List ℕ = found_text entry.found in
-    entry_at-some entry.row (entry_text entry ++ rest) message rest (Ok entry) (part_is_read message rest (found_small entry.found has))
+    let message : List ℕ = found_message entry.found in
+    entry_at-some entry.row (ns_entry_text entry ++ rest) message rest (Ok entry) (part_is_read message rest (found_small entry.found has))
     (placed_ok (length message) (row_left entry.row message) entry (row_is_read entry.row entry.found has))
 
 entries_are_read : (answer : List NsEntry) → HaveMessages answer → entries_left (rows_of answer) (namespace_data_text answer) ≡ Ok answer
@@ -62,7 +62,7 @@ entries_are_read (entry ∷ answer) have =
 -- the messages of entries are read as these
 pub namespace_data_is_read : (answer : List NsEntry) → HaveMessages answer
     → namespace_data_value (rows_of answer) (namespace_data_text answer) ≡ Ok answer
-namespace_data_is_read answer have = ap (placed (length (namespace_data_text answer))) (entries_are_read answer have)
+namespace_data_is_read answer have = ap (with_offset (length (namespace_data_text answer))) (entries_are_read answer have)
 
 -- ---- what is read was written
 
@@ -82,8 +82,8 @@ with_entry_ok entry (Err left) answer e = absurd cc
 -- what is read as an entry
 record IsEntryRead (row : ℕ) (bytes : List ℕ) (entry : NsEntry) (rest : List ℕ) : Type 0 where
   row_is : entry.row ≡ row
-  has : HasMessage entry.found
-  parts : bytes ≡ entry_text entry ++ rest
+  has : FoundHasMessage entry.found
+  parts : bytes ≡ ns_entry_text entry ++ rest
   fits : AreBytes rest
 
 entry_back : (row : ℕ) (bytes : List ℕ) (x : NsEntry × List ℕ) → AreBytes bytes → entry_at row bytes ≡ Ok x → IsEntryRead row bytes x.0 x.1
@@ -120,7 +120,7 @@ entries_back (row ∷ rows) bytes answer fits e =
     let are : AreEntriesRead (row ∷ rows) bytes (entry ∷ b.0) = (
       ap₂ (λ (n : ℕ) (l : List ℕ). n ∷ l) h.row_is others.0,
       (h.has, others.1),
-      h.parts ∙ ap (λ (l : List ℕ). entry_text entry ++ l) others.2,
+      h.parts ∙ ap (λ (l : List ℕ). ns_entry_text entry ++ l) others.2,
     ) in
     subst (λ (l : List NsEntry). AreEntriesRead (row ∷ rows) bytes l) b.2 are
 

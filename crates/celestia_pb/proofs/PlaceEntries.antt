@@ -19,10 +19,10 @@ use Rattle.axis_roots.specs.declared.message.messages.Message.{Message}
 use Rattle.axis_roots.specs.Messages.{IsMessage, position}
 use Rattle.celestia_pb.specs.declared.sample.Sample.{Sample}
 use Rattle.celestia_pb.specs.Reading.{then_read, or_left}
-use Rattle.celestia_pb.specs.Messages.{message_at}
-use Rattle.celestia_pb.specs.Samples.{IsSample, axis_number, if_share, share_at, place_wanted}
-use Rattle.celestia_pb.specs.BefpEntries.{proof_text, entry_text, is_mark, proof_left, axis_in, start_wanted, some_share, data_at, entry_of, entry_axis, entry_proof, entry_left}
-use Rattle.celestia_pb.specs.Inclusions.{first_place}
+use Rattle.celestia_pb.specs.Messages.{optional_message}
+use Rattle.celestia_pb.specs.Samples.{IsSample, axis_number, if_share, share_front, place_wanted}
+use Rattle.celestia_pb.specs.BefpEntries.{proof_text, befp_entry, is_mark, proof_left, axis_field, start_wanted, some_share, data_at, befp_sample, entry_axis, entry_proof, entry_left}
+use Rattle.celestia_pb.specs.Inclusions.{place_stated}
 use Rattle.celestia_pb.proofs.Steps.{same_ok, cond_ok, then_ok}
 use Rattle.celestia_pb.proofs.Fronts.{begins_own}
 use Rattle.celestia_pb.proofs.DigestLemmas.{field_fits, ok_parts}
@@ -51,7 +51,7 @@ position_fits m is Col = is.row
 -- ---- how long
 
 -- a share with its proof isn't long
-pub entry_few : (flag : ℕ) (m : Message) → IsMessage m → length (entry_text flag m) ≤ 2000
+pub entry_few : (flag : ℕ) (m : Message) → IsMessage m → length (befp_entry flag m) ≤ 2000
 entry_few flag m is =
     let start : ℕ = position m.axis m.cell in
     let proof : List ℕ = proof_text flag start m.path in
@@ -69,11 +69,11 @@ entry_few flag m is =
     )
 
 -- it has at least the bytes of the share
-pub entry_some : (flag : ℕ) (m : Message) → IsMessage m → eqb (length (entry_text flag m)) 0 ≡ false
+pub entry_some : (flag : ℕ) (m : Message) → IsMessage m → eqb (length (befp_entry flag m)) 0 ≡ false
 entry_some flag m is =
     let behind : List ℕ = bytes_field 2 (proof_text flag (position m.axis m.cell) m.path) ++ number_text 3 (axis_number m.axis) in
     let size : length m.share.0 ≡ 512 = is.share.size_is in
-    let some : 0 < length (entry_text flag m) =
+    let some : 0 < length (befp_entry flag m) =
     omega (arith, length-append (bytes_field 1 m.share.0) behind, ap length (bytes_field-is 1 m.share.0 (omega arith))) in
     grind (arith, nat_tests)
 
@@ -84,7 +84,7 @@ pub data_is_read : (share : Share) (rest : List ℕ) → length share.0 ≡ 512 
 data_is_read share rest size =
     let bytes : List ℕ = bytes_field 1 share.0 ++ rest in
     let test : eqb (length share.0) 512 ≡ true = grind (arith, nat_tests) in
-    ap (λ (b : Bool). cond b (some_share (or_left bytes (share_at bytes))) (Ok (None, bytes))) (begins_own 1 share.0 rest (omega arith))
+    ap (λ (b : Bool). cond b (some_share (or_left bytes (share_front bytes))) (Ok (None, bytes))) (begins_own 1 share.0 rest (omega arith))
     ∙ ap (λ (o : Option (List ℕ × List ℕ)). some_share (or_left bytes (option_and_then if_share o))) (part_read_back 1 share.0 rest (omega arith) (omega arith))
     ∙ ap (λ (b : Bool). some_share (or_left bytes (cond b (Some (share, rest)) None))) test
 
@@ -101,7 +101,7 @@ path_is_read mark flag m is marked =
 
 -- a share with its proof
 pub entry_is_read : (mark : Option ℕ) (flag : ℕ) (m : Message) → IsMessage m → IsFlag mark flag
-    → entry_left (Some m.cell) mark (entry_text flag m) ≡ Ok (bare m, flag)
+    → entry_left (Some m.cell) mark (befp_entry flag m) ≡ Ok (bare m, flag)
 entry_is_read mark flag m is marked =
     let axis : List ℕ = number_text 3 (axis_number m.axis) in
     let proof : List ℕ = proof_text flag (position m.axis m.cell) m.path in
@@ -110,7 +110,7 @@ entry_is_read mark flag m is marked =
     ap (then_read (entry_proof (Some m.cell) mark)) (data_is_read m.share (bytes_field 2 proof ++ axis) is.share.size_is)
     ∙ ap (then_read (entry_axis (Some m.share)))
     (message_is_read (λ rest part. proof_left (start_wanted (Some m.cell) rest) mark part) 2 proof axis (m.path, flag) (omega arith) small (path_is_read mark flag m is marked))
-    ∙ ap (λ (o : Option (Axis × List ℕ)). then_read (entry_of (Some m.share) (Some (m.path, flag))) (or_left axis o)) (axis_in_is_read 3 m.axis (omega arith))
+    ∙ ap (λ (o : Option (Axis × List ℕ)). then_read (befp_sample (Some m.share) (Some (m.path, flag))) (or_left axis o)) (axis_in_is_read 3 m.axis (omega arith))
 
 -- ---- what is read was written
 
@@ -128,7 +128,7 @@ some_share_parts (Ok read) share rest e =
     ap₂ (λ (s : Share) (l : List ℕ). Ok (s, l)) (same_Some read.0 share both.0) both.1
 
 -- it was written so
-share_parts : (bytes : List ℕ) (share : Share) (rest : List ℕ) → AreBytes bytes → share_at bytes ≡ Some (share, rest) → IsDataRead bytes share rest
+share_parts : (bytes : List ℕ) (share : Share) (rest : List ℕ) → AreBytes bytes → share_front bytes ≡ Some (share, rest) → IsDataRead bytes share rest
 share_parts bytes share rest fits e =
     let read = and_then_parts if_share (canonical_part 1 bytes) (share, rest) e in
     let found = cond_some (eqb (length read.0.0) 512) (record { 0 = read.0.0 }, read.0.1) (share, rest) read.2 in
@@ -148,11 +148,11 @@ share_parts bytes share rest fits e =
 
 -- where it was there
 data_parts : (bytes : List ℕ) (share : Share) (rest : List ℕ) (b : Bool) → AreBytes bytes
-    → cond b (some_share (or_left bytes (share_at bytes))) (Ok (None, bytes)) ≡ Ok (Some share, rest) → IsDataRead bytes share rest
+    → cond b (some_share (or_left bytes (share_front bytes))) (Ok (None, bytes)) ≡ Ok (Some share, rest) → IsDataRead bytes share rest
 data_parts bytes share rest false fits e =
     absurd (none-some share (ap (λ (p : Option Share × List ℕ). p.0) (same_ok (None, bytes) (Some share, rest) e)))
 data_parts bytes share rest true fits e =
-    share_parts bytes share rest fits (or_left_some bytes (share_at bytes) (share, rest) (some_share_parts (or_left bytes (share_at bytes)) share rest e))
+    share_parts bytes share rest fits (or_left_some bytes (share_front bytes) (share, rest) (some_share_parts (or_left bytes (share_front bytes)) share rest e))
 
 -- all parts were there, and nothing follows
 record HasParts (share : Option Share) (proof : Option (List Digest × ℕ)) (axis : Axis) (rest : List ℕ) (x : Sample × ℕ) : Type 0 where
@@ -161,7 +161,7 @@ record HasParts (share : Option Share) (proof : Option (List Digest × ℕ)) (ax
   axis_is : axis ≡ x.0.axis
   none : rest ≡ []
 
-of_parts : (share : Option Share) (proof : Option (List Digest × ℕ)) (axis : Axis) (rest : List ℕ) (x : Sample × ℕ) → entry_of share proof axis rest ≡ Ok x
+of_parts : (share : Option Share) (proof : Option (List Digest × ℕ)) (axis : Axis) (rest : List ℕ) (x : Sample × ℕ) → befp_sample share proof axis rest ≡ Ok x
     → HasParts share proof axis rest x
 of_parts None proof axis rest x e = absurd cc
 of_parts (Some share) None axis rest x e = absurd cc
@@ -178,8 +178,8 @@ of_parts (Some share) (Some proof) axis rest x e =
 pub record IsEntryRead (cell : Cell) (mark : Option ℕ) (bytes : List ℕ) (s : Sample) (flag : ℕ) : Type 0 where
   pub is : IsSample s
   pub passes : is_mark mark flag ≡ true
-  pub same : first_place mark flag ≡ flag
-  pub text : bytes ≡ entry_text flag (with_cell cell s)
+  pub same : place_stated mark flag ≡ flag
+  pub text : bytes ≡ befp_entry flag (with_cell cell s)
 
 -- was written so
 pub entry_back : (cell : Cell) (mark : Option ℕ) (bytes : List ℕ) (x : Sample × ℕ) → AreBytes bytes → entry_left (Some cell) mark bytes ≡ Ok x
@@ -188,13 +188,13 @@ entry_back cell mark bytes x fits e =
     let s : Sample = x.0 in
     let flag : ℕ = x.1 in
     let a = then_ok (entry_proof (Some cell) mark) (data_at bytes) x e in
-    let b = then_ok (entry_axis a.0.0) (message_at (λ rest part. proof_left (start_wanted (Some cell) rest) mark part) 2 a.0.1) x a.2 in
-    let c = then_ok (entry_of a.0.0 b.0.0) (or_left b.0.1 (axis_in 3 b.0.1)) x b.2 in
+    let b = then_ok (entry_axis a.0.0) (optional_message (λ rest part. proof_left (start_wanted (Some cell) rest) mark part) 2 a.0.1) x a.2 in
+    let c = then_ok (befp_sample a.0.0 b.0.0) (or_left b.0.1 (axis_field 3 b.0.1)) x b.2 in
     let has = of_parts a.0.0 b.0.0 c.0.0 c.0.1 x c.2 in
     let share = data_parts bytes s.share a.0.1 (begins_part 1 bytes) fits (a.1 ∙ ap (λ (o : Option Share). Ok (o, a.0.1)) has.share_is) in
     let path = message_back (λ rest part. proof_left (start_wanted (Some cell) rest) mark part) 2 a.0.1 (s.path, flag) b.0.1 (omega arith) share.fits
     (b.1 ∙ ap (λ (o : Option (List Digest × ℕ)). Ok (o, b.0.1)) has.proof_is) in
-    let axis : axis_in 3 b.0.1 ≡ Some (s.axis, []) = or_left_some b.0.1 (axis_in 3 b.0.1) c.0 c.1 ∙ ap₂ (λ (y : Axis) (l : List ℕ). Some (y, l)) has.axis_is has.none in
+    let axis : axis_field 3 b.0.1 ≡ Some (s.axis, []) = or_left_some b.0.1 (axis_field 3 b.0.1) c.0 c.1 ∙ ap₂ (λ (y : Axis) (l : List ℕ). Some (y, l)) has.axis_is has.none in
     let place : ℕ = position s.axis cell in
     let found : proof_left (Some place) mark path.part ≡ Ok (s.path, flag) =
     ap (λ (n : ℕ). proof_left (Some n) mark path.part) (sym (place_is_position s.axis cell))

@@ -18,9 +18,9 @@ use Rattle.celestia_pb.specs.declared.befp_entries.Accused.{Accused}
 use Rattle.celestia_pb.specs.declared.befp_entries.Seen.{Seen}
 use Rattle.celestia_pb.specs.Reading.{then_read, or_left}
 use Rattle.celestia_pb.specs.Messages.{before_rest}
-use Rattle.celestia_pb.specs.Inclusions.{first_place}
+use Rattle.celestia_pb.specs.Inclusions.{place_stated}
 use Rattle.celestia_pb.specs.Samples.{IsSample}
-use Rattle.celestia_pb.specs.BefpEntries.{entry_text, place_text, places_text, entry_left, cell_of, passed, step_of, part_left, step_left, with_place, before_places, places_at, cells_of}
+use Rattle.celestia_pb.specs.BefpEntries.{befp_entry, befp_place, places_text, entry_left, accused_cell, seen_place, step_of, part_left, step_left, with_place, before_places, places_at, cells_of}
 use Rattle.celestia_pb.specs.Befp.{count_at}
 use Rattle.celestia_pb.proofs.Fronts.{begins_own, begins_other}
 use Rattle.celestia_pb.proofs.Steps.{same_ok, then_ok}
@@ -35,21 +35,21 @@ use Rattle.celestia_pb.proofs.PlaceCells.{shown, bare_all, StandAt, cell_at, mes
 
 -- the field of a place, and those of the others
 pub places_text-next : (flag : ℕ) (place : Option Message) (places : List (Option Message)) (rest : List ℕ)
-    → places_text flag (place ∷ places) ++ rest ≡ bytes_field 3 (place_text flag place) ++ (places_text flag places ++ rest)
-places_text-next flag place places rest = append_assoc (bytes_field 3 (place_text flag place)) (places_text flag places) rest
+    → places_text flag (place ∷ places) ++ rest ≡ bytes_field 3 (befp_place flag place) ++ (places_text flag places ++ rest)
+places_text-next flag place places rest = append_assoc (bytes_field 3 (befp_place flag place)) (places_text flag places) rest
 
 -- none of another tag is in front of them
 pub begins_places : (tag flag : ℕ) (places : List (Option Message)) (rest : List ℕ) → eqb 26 tag ≡ false → begins tag rest ≡ false
     → begins tag (places_text flag places ++ rest) ≡ false
 begins_places tag flag [] rest other none = none
 begins_places tag flag (place ∷ places) rest other none =
-    ap (begins tag) (places_text-next flag place places rest) ∙ begins_other tag 3 (place_text flag place) (places_text flag places ++ rest) (omega arith) other
+    ap (begins tag) (places_text-next flag place places rest) ∙ begins_other tag 3 (befp_place flag place) (places_text flag places ++ rest) (omega arith) other
 
 -- ---- places that were written are counted
 
 -- what stands at a place isn't long
 pub first_short : (accused : Accused) (place flag : ℕ) (o : Option Message) (places : List (Option Message)) → StandAt accused place (o ∷ places)
-    → (length (place_text flag o) < 2 ^ 64) × StandAt accused (suc place) places
+    → (length (befp_place flag o) < 2 ^ 64) × StandAt accused (suc place) places
 first_short accused place flag None places stand = (omega arith, stand)
 first_short accused place flag (Some m) places stand = (omega (arith, entry_few flag m stand.0.0), stand.1)
 
@@ -62,7 +62,7 @@ places_are_counted accused place flag count most [] rest stand few none =
 places_are_counted accused place flag count zero (o ∷ places) rest stand few none = absurd (omega arith)
 places_are_counted accused place flag count (suc most) (o ∷ places) rest stand few none =
     let first = first_short accused place flag o places stand in
-    let part : List ℕ = place_text flag o in
+    let part : List ℕ = befp_place flag o in
     let behind : List ℕ = places_text flag places ++ rest in
     let bytes : List ℕ = bytes_field 3 part ++ behind in
     let e : suc count + length places ≡ count + suc (length places) = omega arith in
@@ -82,16 +82,16 @@ module _ (accused : Accused) (most : ℕ) where
       cond none (Ok (None, rest)) (cond few (before_rest rest (entry_left (Some (cell_on accused.axis accused.index seen.place)) seen.mark part)) (Err (length bytes)))
 
   -- a place with nothing
-  none_is_read : (seen : Seen) (rest : List ℕ) → step_left (Some accused) most seen (bytes_field 3 [] ++ rest) ≡ Ok ((None, passed seen None), rest)
+  none_is_read : (seen : Seen) (rest : List ℕ) → step_left (Some accused) most seen (bytes_field 3 [] ++ rest) ≡ Ok ((None, seen_place seen None), rest)
   none_is_read seen rest =
       let bytes : List ℕ = bytes_field 3 [] ++ rest in
       ap (λ (x : Option (List ℕ × List ℕ)). then_read (step_of seen) (then_read (part_left (Some accused) most seen bytes) (or_left bytes x))) (part_read_back 3 [] rest (omega arith) (omega arith))
 
   -- one with a share
   some_is_read : (flag : ℕ) (seen : Seen) (m : Message) (rest : List ℕ) → IsMessage m → m.cell ≡ cell_on accused.axis accused.index seen.place → IsFlag seen.mark flag
-      → seen.shares < most → step_left (Some accused) most seen (bytes_field 3 (entry_text flag m) ++ rest) ≡ Ok ((Some (bare m), passed seen (Some (bare m, flag))), rest)
+      → seen.shares < most → step_left (Some accused) most seen (bytes_field 3 (befp_entry flag m) ++ rest) ≡ Ok ((Some (bare m), seen_place seen (Some (bare m, flag))), rest)
   some_is_read flag seen m rest is at marked few =
-      let part : List ℕ = entry_text flag m in
+      let part : List ℕ = befp_entry flag m in
       let bytes : List ℕ = bytes_field 3 part ++ rest in
       let short : length part < 2 ^ 64 = omega (arith, entry_few flag m is) in
       ap (λ (x : Option (List ℕ × List ℕ)). then_read (step_of seen) (then_read (part_left (Some accused) most seen bytes) (or_left bytes x))) (part_read_back 3 part rest (omega arith) short)
@@ -108,23 +108,23 @@ module _ (accused : Accused) (most : ℕ) where
 
   -- behind one that was read
   behind_one : (flag count : ℕ) (seen next : Seen) (o : Option Message) (places : List (Option Message)) (rest : List ℕ)
-      → step_left (Some accused) most seen (bytes_field 3 (place_text flag o) ++ (places_text flag places ++ rest)) ≡ Ok ((option_map bare o, next), places_text flag places ++ rest)
+      → step_left (Some accused) most seen (bytes_field 3 (befp_place flag o) ++ (places_text flag places ++ rest)) ≡ Ok ((option_map bare o, next), places_text flag places ++ rest)
       → next.place ≡ suc seen.place → next.shares + shown places ≡ seen.shares + shown (o ∷ places) → AreRead count next (places_text flag places ++ rest) places rest
       → AreRead (suc count) seen (places_text flag (o ∷ places) ++ rest) (o ∷ places) rest
   behind_one flag count seen next o places rest step one more others =
       let behind : List ℕ = places_text flag places ++ rest in
-      let bytes : List ℕ = bytes_field 3 (place_text flag o) ++ behind in
+      let bytes : List ℕ = bytes_field 3 (befp_place flag o) ++ behind in
       record {
         after = others.after;
         read = ap (places_at (Some accused) most (suc count) seen) (places_text-next flag o places rest)
-            ∙ places_at-there (Some accused) most count seen bytes (Ok ((option_map bare o, next), behind)) (begins_own 3 (place_text flag o) behind (omega arith)) step
+            ∙ places_at-there (Some accused) most count seen bytes (Ok ((option_map bare o, next), behind)) (begins_own 3 (befp_place flag o) behind (omega arith)) step
             ∙ ap (with_place (option_map bare o)) others.read;
         place = omega (arith, others.place, one);
         shares = others.shares ∙ more;
       }
 
   -- all are read, where no other field of theirs follows
-  pub places_are_read : (flag count : ℕ) (seen : Seen) (places : List (Option Message)) (rest : List ℕ) → flag ≤ 1 → first_place seen.mark flag ≡ flag
+  pub places_are_read : (flag count : ℕ) (seen : Seen) (places : List (Option Message)) (rest : List ℕ) → flag ≤ 1 → place_stated seen.mark flag ≡ flag
       → StandAt accused seen.place places → length places ≤ count → seen.shares + shown places ≤ most → begins_part 3 rest ≡ false
       → AreRead count seen (places_text flag places ++ rest) places rest
   places_are_read flag count seen [] rest one same stand few fits none = record {
@@ -135,11 +135,11 @@ module _ (accused : Accused) (most : ℕ) where
   }
   places_are_read flag zero seen (o ∷ places) rest one same stand few fits none = absurd (omega arith)
   places_are_read flag (suc count) seen (None ∷ places) rest one same stand few fits none =
-      behind_one flag count seen (passed seen None) None places rest (none_is_read seen (places_text flag places ++ rest)) refl refl
-      (places_are_read flag count (passed seen None) places rest one same stand (omega arith) fits none)
+      behind_one flag count seen (seen_place seen None) None places rest (none_is_read seen (places_text flag places ++ rest)) refl refl
+      (places_are_read flag count (seen_place seen None) places rest one same stand (omega arith) fits none)
   places_are_read flag (suc count) seen (Some m ∷ places) rest one same stand few fits none =
       let marked : IsFlag seen.mark flag = record { few = one; same = same } in
-      let next : Seen = passed seen (Some (bare m, flag)) in
+      let next : Seen = seen_place seen (Some (bare m, flag)) in
       let lt : seen.shares < most = omega (arith, fits) in
       let more : suc seen.shares + shown places ≡ seen.shares + suc (shown places) = omega arith in
       behind_one flag count seen next (Some m) places rest (some_is_read flag seen m (places_text flag places ++ rest) stand.0.0 stand.0.1 marked lt) refl more
@@ -181,19 +181,19 @@ pub record IsStep (known : Option Accused) (seen : Seen) (bytes : List ℕ) (ste
   pub part : List ℕ
   pub entry : Option (Sample × ℕ)
   pub there : canonical_part 3 bytes ≡ Some (part, rest)
-  pub is : IsPart (cell_of known seen.place) seen.mark part entry
+  pub is : IsPart (accused_cell known seen.place) seen.mark part entry
   pub sample_is : step.0 ≡ option_map (λ (x : Sample × ℕ). x.0) entry
-  pub next_is : step.1 ≡ passed seen entry
+  pub next_is : step.1 ≡ seen_place seen entry
 
 pub step_parts : (known : Option Accused) (most : ℕ) (seen : Seen) (bytes : List ℕ) (y : (Option Sample × Seen) × List ℕ) → step_left known most seen bytes ≡ Ok y
     → IsStep known seen bytes y.0 y.1
 step_parts known most seen bytes y e =
     let w = then_ok (step_of seen) (then_read (part_left known most seen bytes) (or_left bytes (canonical_part 3 bytes))) y e in
     let p = then_ok (part_left known most seen bytes) (or_left bytes (canonical_part 3 bytes)) w.0 w.1 in
-    let cell : Option Cell = cell_of known seen.place in
+    let cell : Option Cell = accused_cell known seen.place in
     let part : List ℕ = p.0.0 in
     let is = part_parts cell seen.mark (length bytes) part p.0.1 (length part == 0) (nat_lt seen.shares most) (entry_left cell seen.mark part) w.0 refl refl p.2 in
-    let same = same_ok ((option_map (λ (x : Sample × ℕ). x.0) w.0.0, passed seen w.0.0), w.0.1) y w.2 in
+    let same = same_ok ((option_map (λ (x : Sample × ℕ). x.0) w.0.0, seen_place seen w.0.0), w.0.1) y w.2 in
     let after : p.0.1 ≡ y.1 = sym is.1 ∙ ap (λ (z : (Option Sample × Seen) × List ℕ). z.1) same in
     record {
       part = part;
@@ -205,7 +205,7 @@ step_parts known most seen bytes y e =
     }
 
 -- one place more
-passed_place : (seen : Seen) (entry : Option (Sample × ℕ)) → (passed seen entry).place ≡ suc seen.place
+passed_place : (seen : Seen) (entry : Option (Sample × ℕ)) → (seen_place seen entry).place ≡ suc seen.place
 passed_place seen None = refl
 passed_place seen (Some entry) = refl
 
@@ -291,17 +291,17 @@ record IsPlaceRead (accused : Accused) (seen : Seen) (bytes : List ℕ) (o : Opt
   is : IfSome o IsSample
   small : IsSmall next.mark
   kept : IsKept seen.mark next.mark
-  text : (last : Option ℕ) → IsKept next.mark last → bytes ≡ bytes_field 3 (place_text (flag_of last) (cell_at accused seen.place o)) ++ rest
+  text : (last : Option ℕ) → IsKept next.mark last → bytes ≡ bytes_field 3 (befp_place (flag_of last) (cell_at accused seen.place o)) ++ rest
 
 -- the flag of the proofs before is that of this one
-same_flag : (mark : Option ℕ) (flag : ℕ) → first_place mark flag ≡ flag → IsKept mark (Some flag)
+same_flag : (mark : Option ℕ) (flag : ℕ) → place_stated mark flag ≡ flag → IsKept mark (Some flag)
 same_flag None flag same before e = absurd (none-some before e)
 same_flag (Some other) flag same before e = ap (λ (n : ℕ). Some n) (sym same) ∙ e
 
 -- nothing, or a share with its proof
 entry_parts : (accused : Accused) (seen : Seen) (bytes part rest : List ℕ) (entry : Option (Sample × ℕ)) → AreBytes part → AreBytes rest → IsSmall seen.mark
     → bytes ≡ bytes_field 3 part ++ rest → IsPart (Some (cell_on accused.axis accused.index seen.place)) seen.mark part entry
-    → IsPlaceRead accused seen bytes (option_map (λ (x : Sample × ℕ). x.0) entry) (passed seen entry) rest
+    → IsPlaceRead accused seen bytes (option_map (λ (x : Sample × ℕ). x.0) entry) (seen_place seen entry) rest
 entry_parts accused seen bytes part rest None part_fits fits small parts is = record {
   fits = fits;
   place = refl;
@@ -323,7 +323,7 @@ entry_parts accused seen bytes part rest (Some x) part_fits fits small parts is 
       small = λ flag e. subst (λ (n : ℕ). n ≤ 1) (same_Some x.1 flag e) marked.few;
       kept = same_flag seen.mark x.1 was.same;
       text = λ last kept. parts ∙ ap (λ (l : List ℕ). bytes_field 3 l ++ rest) (was.text
-          ∙ ap (λ (m : Option ℕ). entry_text (flag_of m) (with_cell cell x.0)) (sym (kept x.1 refl)));
+          ∙ ap (λ (m : Option ℕ). befp_entry (flag_of m) (with_cell cell x.0)) (sym (kept x.1 refl)));
     }
 
 -- it was written so
@@ -394,7 +394,7 @@ test_back accused most count seen bytes x true back fits small e =
       kept = λ flag e. others.kept flag (p.kept flag e);
       text = λ last kept.
           p.text last (λ flag e. kept flag (others.kept flag e))
-          ∙ ap (λ (l : List ℕ). bytes_field 3 (place_text (flag_of last) (cell_at accused seen.place h.first)) ++ l)
+          ∙ ap (λ (l : List ℕ). bytes_field 3 (befp_place (flag_of last) (cell_at accused seen.place h.first)) ++ l)
           (others.text last kept ∙ ap (λ (n : ℕ). places_text (flag_of last) (messages_of accused n h.others) ++ x.1) one)
           ∙ sym (places_text-next (flag_of last) (cell_at accused seen.place h.first) (messages_of accused (suc seen.place) h.others) x.1);
     })

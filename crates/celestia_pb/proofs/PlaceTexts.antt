@@ -3,7 +3,7 @@ use Rattle.std.proofs.Common.{◌≡◌, ◌∙◌, ℕ, zero, suc, ◌+◌, ◌
 use Rattle.namespace_id.specs.declared.cells.Axis.{Axis}
 use Rattle.proto_fields.specs.Spelled.{bytes_field}
 use Rattle.axis_roots.specs.declared.message.messages.Message.{Message}
-use Rattle.celestia_pb.specs.BefpEntries.{place_text, places_text, shown_at, behind_place, places_of}
+use Rattle.celestia_pb.specs.BefpEntries.{befp_place, places_text, shown_at, behind_place, places_of}
 use Rattle.celestia_pb.proofs.PutLoops.{IsPut}
 
 module _ (axis : Axis) where
@@ -20,7 +20,7 @@ module _ (axis : Axis) where
 
   -- what a place is written as
   abbrev pub text_at : ℕ → List Message → List ℕ
-  text_at place cells = bytes_field 3 (place_text 1 (shown_at axis place cells))
+  text_at place cells = bytes_field 3 (befp_place 1 (shown_at axis place cells))
 
   -- what the places from one on are written as, of so many
   abbrev pub texts_from : ℕ → ℕ → List Message → List ℕ

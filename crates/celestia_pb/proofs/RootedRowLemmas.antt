@@ -20,9 +20,9 @@ use Rattle.celestia_pb.specs.declared.rooted_row.Told.{Told}
 use Rattle.celestia_pb.specs.declared.rooted_row.RowPath.{RowPath}
 use Rattle.celestia_pb.specs.declared.rooted_row.RootedRow.{RootedRow}
 use Rattle.celestia_pb.specs.Reading.{then_read}
-use Rattle.celestia_pb.specs.Digests.{digest_at}
-use Rattle.celestia_pb.specs.Messages.{number_left, message_at}
-use Rattle.celestia_pb.specs.Inclusions.{is_start}
+use Rattle.celestia_pb.specs.Digests.{digest_field}
+use Rattle.celestia_pb.specs.Messages.{number_left, optional_message}
+use Rattle.celestia_pb.specs.Inclusions.{is_place_stated}
 use Rattle.celestia_pb.specs.Aunts.{optional_at, aunts_at}
 use Rattle.celestia_pb.specs.RootedRows.{row_path_text, rooted_row_text, is_total, is_row, may_total, may_row, is_leaf, if_leaf, leaf_at, row_path_end, row_path_aunts, row_path_leaf, row_path_row, row_path_left, row_in, rooted_end, rooted_last, rooted_first, rooted_path, rooted_row_left}
 use Rattle.celestia_pb.proofs.Steps.{cond_ok, then_ok}
@@ -207,7 +207,7 @@ rooted_row_few k row root up is all =
     )
 
 -- a number that is wanted
-start_self : (n : ℕ) → is_start (Some n) n ≡ true
+start_self : (n : ℕ) → is_place_stated (Some n) n ≡ true
 start_self n = grind (arith, nat_tests)
 
 -- a row with its root
@@ -224,12 +224,12 @@ rooted_row_is_read told k row root up total_is row_is small lt is all few =
     let end5 : t5 ≡ t5 ++ [] = sym (append-nil t5) in
     let none32 : begins 32 t5 ≡ false = ap (begins 32) end5 ∙ begins_number 32 5 row [] (omega arith) refl refl in
     let short : length text < 2 ^ 64 = omega (arith, row_path_few k row root up all) in
-    ap (then_read (rooted_path told)) (optional_is_read (digest_at 1) 1 t1 root t2 (begins_own 1 root.0 t2 (omega arith)) (digest_is_read 1 root t2 (omega arith) is.size_is))
+    ap (then_read (rooted_path told)) (optional_is_read (digest_field 1) 1 t1 root t2 (begins_own 1 root.0 t2 (omega arith)) (digest_is_read 1 root t2 (omega arith) is.size_is))
     ∙ ap (then_read (rooted_first (Some root))) (
     message_is_read (λ rest part. row_path_left told (Some root) part) 2 text t4 path (omega arith) short (row_path_is_read told k row root up total_is row_is small lt all few))
-    ∙ ap (then_read (rooted_last (Some root) (Some path))) (number_left_is_read (is_start (Some row)) 4 row t5 (start_self row) (omega arith) (omega arith) none32)
+    ∙ ap (then_read (rooted_last (Some root) (Some path))) (number_left_is_read (is_place_stated (Some row)) 4 row t5 (start_self row) (omega arith) (omega arith) none32)
     ∙ ap (rooted_last (Some root) (Some path) row) end5
-    ∙ ap (then_read (rooted_end (Some root) (Some path) row)) (number_left_is_read (is_start (Some row)) 5 row [] (start_self row) (omega arith) (omega arith) refl)
+    ∙ ap (then_read (rooted_end (Some root) (Some path) row)) (number_left_is_read (is_place_stated (Some row)) 5 row [] (start_self row) (omega arith) (omega arith) refl)
     ∙ ap (λ (b : Bool). cond b (Ok (record { root = root; path = path })) (Err 0)) (and_from (eqb row row) (eqb row row) (eqb_self row) (eqb_self row))
 
 -- what is read as a row
@@ -268,20 +268,20 @@ row_parts (Some root) (Some path) first last rest row e =
 -- what is read as a row was written so
 pub rooted_row_back : (told : Option Told) (bytes : List ℕ) (row : RootedRow) → AreBytes bytes → rooted_row_left told bytes ≡ Ok row → IsRootedRowRead told bytes row
 rooted_row_back told bytes row fits e =
-    let a = then_ok (rooted_path told) (optional_at (digest_at 1) 1 bytes) row e in
-    let b = then_ok (rooted_first a.0.0) (message_at (λ rest part. row_path_left told a.0.0 part) 2 a.0.1) row a.2 in
-    let c = then_ok (rooted_last a.0.0 b.0.0) (number_left (is_start (row_in b.0.0)) 4 b.0.1) row b.2 in
-    let d = then_ok (rooted_end a.0.0 b.0.0 c.0.0) (number_left (is_start (row_in b.0.0)) 5 c.0.1) row c.2 in
+    let a = then_ok (rooted_path told) (optional_at (digest_field 1) 1 bytes) row e in
+    let b = then_ok (rooted_first a.0.0) (optional_message (λ rest part. row_path_left told a.0.0 part) 2 a.0.1) row a.2 in
+    let c = then_ok (rooted_last a.0.0 b.0.0) (number_left (is_place_stated (row_in b.0.0)) 4 b.0.1) row b.2 in
+    let d = then_ok (rooted_end a.0.0 b.0.0 c.0.0) (number_left (is_place_stated (row_in b.0.0)) 5 c.0.1) row c.2 in
     let has = row_parts a.0.0 b.0.0 c.0.0 d.0.0 d.0.1 row d.2 in
-    let found = optional_back (digest_at 1) 1 bytes row.root a.0.1 (a.1 ∙ ap (λ (o : Option Digest). Ok (o, a.0.1)) has.root_is) in
+    let found = optional_back (digest_field 1) 1 bytes row.root a.0.1 (a.1 ∙ ap (λ (o : Option Digest). Ok (o, a.0.1)) has.root_is) in
     let n1 = read_is_digest 1 bytes row.root a.0.1 (omega arith) fits found in
-    let second : message_at (λ rest part. row_path_left told (Some row.root) part) 2 a.0.1 ≡ Ok (Some row.path, b.0.1) =
-    ap (λ (o : Option Digest). message_at (λ rest part. row_path_left told o part) 2 a.0.1) (sym has.root_is)
+    let second : optional_message (λ rest part. row_path_left told (Some row.root) part) 2 a.0.1 ≡ Ok (Some row.path, b.0.1) =
+    ap (λ (o : Option Digest). optional_message (λ rest part. row_path_left told o part) 2 a.0.1) (sym has.root_is)
     ∙ b.1 ∙ ap (λ (o : Option RowPath). Ok (o, b.0.1)) has.path_is in
     let m = message_back (λ rest part. row_path_left told (Some row.root) part) 2 a.0.1 row.path b.0.1 (omega arith) n1.fits second in
     let p = row_path_back told row.root m.part row.path m.part_fits m.read in
-    let n4 = number_left_back (is_start (row_in b.0.0)) 4 b.0.1 c.0 (omega arith) m.fits c.1 in
-    let n5 = number_left_back (is_start (row_in b.0.0)) 5 c.0.1 d.0 (omega arith) n4.fits d.1 in
+    let n4 = number_left_back (is_place_stated (row_in b.0.0)) 4 b.0.1 c.0 (omega arith) m.fits c.1 in
+    let n5 = number_left_back (is_place_stated (row_in b.0.0)) 5 c.0.1 d.0 (omega arith) n4.fits d.1 in
     let number : ℕ = row.path.row in
     let t5 : c.0.1 ≡ number_text 5 number = n5.parts ∙ ap₂ (λ (n : ℕ) (l : List ℕ). number_text 5 n ++ l) has.last_is has.none ∙ append-nil (number_text 5 number) in
     let t4 : b.0.1 ≡ number_text 4 number ++ number_text 5 number = n4.parts ∙ ap₂ (λ (n : ℕ) (l : List ℕ). number_text 4 n ++ l) has.first_is t5 in

@@ -14,7 +14,7 @@ use Rattle.proto_fields.specs.Canonical.{number_text, parts_text}
 use Rattle.proto_fields.proofs.WrittenLemmas.{size_is_length}
 use Rattle.celestia_pb.specs.SharePaths.{share_path_text}
 use Rattle.celestia_pb.specs.RootedRows.{row_path_text, rooted_row_text}
-use Rattle.celestia_pb.specs.ShareProofs.{name_of, id_in, version_in, share_proof_text}
+use Rattle.celestia_pb.specs.ShareProofs.{name_of, id_in, name_version, share_proof_text}
 use Rattle.celestia_pb.proofs.AuntLemmas.{aunt_length, length_aunts}
 use Rattle.celestia_pb.proofs.RootedRowLemmas.{leaf_string}
 
@@ -59,9 +59,9 @@ pub length_share_proof : (p : RootedParts) → length p.message.share.0 ≡ 512
     → length (share_proof_text p)
     ≡ field_size 1 512
     + (field_size 2 (length (share_path_text p.message.cell.col p.message.path))
-    + (field_size 3 28 + (field_size 4 (length (rooted_row_text p.k p.message.cell.row p.root p.up)) + length (number_text 5 (version_in (name_of p))))))
+    + (field_size 3 28 + (field_size 4 (length (rooted_row_text p.k p.message.cell.row p.root p.up)) + length (number_text 5 (name_version (name_of p))))))
 length_share_proof p size =
-    let t5 : List ℕ = number_text 5 (version_in (name_of p)) in
+    let t5 : List ℕ = number_text 5 (name_version (name_of p)) in
     let row : List ℕ = rooted_row_text p.k p.message.cell.row p.root p.up in
     let path : List ℕ = share_path_text p.message.cell.col p.message.path in
     let id : List ℕ = id_in (name_of p) in

@@ -10,7 +10,7 @@ use Rattle.proto_fields.specs.Canonical.{part_field}
 use Rattle.proto_fields.proofs.FieldLemmas.{no_fields, all_bytes_in_a_row}
 use Rattle.proto_fields.proofs.CanonicalLemmas.{part_fields_of}
 use Rattle.axis_roots.specs.declared.answers.NsEntry.{NsEntry}
-use Rattle.celestia_pb.specs.Samples.{share_text}
+use Rattle.celestia_pb.specs.Samples.{share_message}
 use Rattle.celestia_pb.specs.RowShares.{shares_text}
 use Rattle.celestia_pb.specs.RowProofs.{row_proof_text}
 use Rattle.celestia_pb.specs.RowData.{row_text, row_left, row_value}
@@ -22,7 +22,7 @@ use Rattle.celestia_pb.proofs.RowDataLemmas.{AreParts, found_is, proof_small, pa
 
 -- the fields that shares are
 abbrev share_fields : List Share → List FieldParts
-share_fields shares = map (λ (share : Share). part_field 1 (share_text share)) shares
+share_fields shares = map (λ (share : Share). part_field 1 (share_message share)) shares
 
 -- shares that were written are these fields, and then those that follow
 share_fields_of : (shares : List Share) (rest : List ℕ) (fields : List FieldParts) → AreShares shares → fields_of rest ≡ Some fields
@@ -31,13 +31,13 @@ share_fields_of [] rest fields all others = others
 share_fields_of (share ∷ shares) rest fields all others =
     let size : length share.0 ≡ 512 = all.0.size_is in
     ap fields_of (shares_text-next share shares rest)
-    ∙ part_fields_of 1 (share_text share) (shares_text shares ++ rest) (share_fields shares ++ fields) (omega arith) (omega arith) (omega (arith, field_few 1 share.0))
+    ∙ part_fields_of 1 (share_message share) (shares_text shares ++ rest) (share_fields shares ++ fields) (omega arith) (omega arith) (omega (arith, field_few 1 share.0))
     (share_fields_of shares rest fields all.1 others)
 
 -- those of their number are all of them
-own_shares : (shares : List Share) → all_bytes 1 (share_fields shares) ≡ map share_text shares
+own_shares : (shares : List Share) → all_bytes 1 (share_fields shares) ≡ map share_message shares
 own_shares [] = refl
-own_shares (share ∷ shares) = ap (λ (x : List (List ℕ)). share_text share ∷ x) (own_shares shares)
+own_shares (share ∷ shares) = ap (λ (x : List (List ℕ)). share_message share ∷ x) (own_shares shares)
 
 -- and of another number there is none
 other_shares : (shares : List Share) → all_bytes 2 (share_fields shares) ≡ []

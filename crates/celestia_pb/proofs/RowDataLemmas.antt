@@ -15,13 +15,13 @@ use Rattle.axis_roots.specs.declared.answers.Found.{Found}
 use Rattle.axis_roots.specs.declared.answers.Found.TheVariants.{Range, Absence}
 use Rattle.axis_roots.specs.declared.answers.NsEntry.{NsEntry}
 use Rattle.celestia_pb.specs.ShareLists.{share_behind}
-use Rattle.celestia_pb.specs.Reading.{then_read, placed}
-use Rattle.celestia_pb.specs.Messages.{message_at}
-use Rattle.celestia_pb.specs.Samples.{share_text}
-use Rattle.celestia_pb.specs.RowShares.{shares_text, shares_at, shares_in}
-use Rattle.celestia_pb.specs.RowProofs.{leaf_count, hash_count, ProofParts, row_proof_text, row_proof_left}
-use Rattle.celestia_pb.specs.RowData.{row_text, found_text, found_by, row_end, row_proof, row_left, row_value}
-use Rattle.celestia_pb.specs.RowDataLaws.{HasMessage, share_messages, proof_message}
+use Rattle.celestia_pb.specs.Reading.{then_read, with_offset}
+use Rattle.celestia_pb.specs.Messages.{optional_message}
+use Rattle.celestia_pb.specs.Samples.{share_message}
+use Rattle.celestia_pb.specs.RowShares.{shares_text, shares_at, tagged_shares}
+use Rattle.celestia_pb.specs.RowProofs.{leaf_count, hash_count, RowProofParts, row_proof_text, row_proof_left}
+use Rattle.celestia_pb.specs.RowData.{row_text, found_message, found_by, row_end, row_proof, row_left, row_value}
+use Rattle.celestia_pb.specs.RowDataLaws.{FoundHasMessage, share_messages, proof_message}
 use Rattle.celestia_pb.proofs.Steps.{cond_ok, then_ok, placed_ok}
 use Rattle.celestia_pb.proofs.Fronts.{begins_other}
 use Rattle.celestia_pb.proofs.MessageLemmas.{field_few, message_is_read, message_back}
@@ -48,9 +48,9 @@ pub record AreParts (shares : List Share) (start : ℕ) (nodes hashes : List Dig
 
 -- what is found by these has a message, which is theirs
 pub record IsFoundBy (shares : List Share) (start : ℕ) (nodes hashes : List Digest) : Type 0 where
-  pub has : HasMessage (found_by shares start nodes hashes)
-  pub text : row_text shares start nodes hashes ≡ found_text (found_by shares start nodes hashes)
-  pub messages : map share_text shares ≡ share_messages (found_by shares start nodes hashes)
+  pub has : FoundHasMessage (found_by shares start nodes hashes)
+  pub text : row_text shares start nodes hashes ≡ found_message (found_by shares start nodes hashes)
+  pub messages : map share_message shares ≡ share_messages (found_by shares start nodes hashes)
   pub proof : row_proof_text start (length shares) nodes hashes ≡ proof_message (found_by shares start nodes hashes)
 
 -- some shares have no leaf hash
@@ -124,7 +124,7 @@ parts_are_read row shares start nodes hashes are =
     (row_proof_is_read start (length shares) nodes hashes are.short lt are.nodes_are are.most are.hashes_are are.many))
 
 -- a range that has a message has these parts
-range_parts : (start : ℕ) (shares : List Share) (nodes : List Digest) → HasMessage (Range start shares nodes) → AreParts shares start nodes []
+range_parts : (start : ℕ) (shares : List Share) (nodes : List Digest) → FoundHasMessage (Range start shares nodes) → AreParts shares start nodes []
 range_parts start shares nodes has =
     let test = and_parts (ltb 0 (length shares)) (leb (length shares) 512) has.has in
     let some : 0 < length shares = ltb-true 0 (length shares) test.0 in
@@ -140,7 +140,7 @@ range_parts start shares nodes has =
     }
 
 -- an absence has these
-absence_parts : (pos : ℕ) (leaf : Digest) (nodes : List Digest) → HasMessage (Absence pos leaf nodes) → AreParts [] pos nodes (leaf ∷ [])
+absence_parts : (pos : ℕ) (leaf : Digest) (nodes : List Digest) → FoundHasMessage (Absence pos leaf nodes) → AreParts [] pos nodes (leaf ∷ [])
 absence_parts pos leaf nodes has = record {
   shares_are = tt;
   few = omega arith;
@@ -152,11 +152,11 @@ absence_parts pos leaf nodes has = record {
 }
 
 -- what is found is found by its parts
-pub row_is_read : (row : ℕ) (found : Found) → HasMessage found → row_value row (found_text found) ≡ Ok (record { row = row; found = found })
+pub row_is_read : (row : ℕ) (found : Found) → FoundHasMessage found → row_value row (found_message found) ≡ Ok (record { row = row; found = found })
 row_is_read row (Range start shares nodes) has =
-    ap (placed (length (found_text (Range start shares nodes)))) (parts_are_read row shares start nodes [] (range_parts start shares nodes has))
+    ap (with_offset (length (found_message (Range start shares nodes)))) (parts_are_read row shares start nodes [] (range_parts start shares nodes has))
 row_is_read row (Absence pos leaf nodes) has =
-    ap (placed (length (found_text (Absence pos leaf nodes)))) (parts_are_read row [] pos nodes (leaf ∷ []) (absence_parts pos leaf nodes has))
+    ap (with_offset (length (found_message (Absence pos leaf nodes)))) (parts_are_read row [] pos nodes (leaf ∷ []) (absence_parts pos leaf nodes has))
 
 -- a message isn't long
 row_small : (shares : List Share) (start : ℕ) (nodes hashes : List Digest) → AreParts shares start nodes hashes
@@ -175,20 +175,20 @@ row_small shares start nodes hashes are =
       hashes_few (length shares),
     )
 
-pub found_small : (found : Found) → HasMessage found → length (found_text found) < 2 ^ 64
+pub found_small : (found : Found) → FoundHasMessage found → length (found_message found) < 2 ^ 64
 found_small (Range start shares nodes) has = row_small shares start nodes [] (range_parts start shares nodes has)
 found_small (Absence pos leaf nodes) has = row_small [] pos nodes (leaf ∷ []) (absence_parts pos leaf nodes has)
 
 -- ---- what is read was written
 
 -- the proof was there, and nothing follows
-record HasProof (row : ℕ) (shares : List Share) (o : Option ProofParts) (rest : List ℕ) (entry : NsEntry) : Type 0 where
-  proof : ProofParts
+record HasProof (row : ℕ) (shares : List Share) (o : Option RowProofParts) (rest : List ℕ) (entry : NsEntry) : Type 0 where
+  proof : RowProofParts
   proof_is : o ≡ Some proof
   none : rest ≡ []
   entry_is : record { row = row; found = found_by shares proof.0 proof.1.0 proof.1.1 } ≡ entry
 
-end_parts : (row : ℕ) (shares : List Share) (o : Option ProofParts) (rest : List ℕ) (entry : NsEntry) → row_end row shares o rest ≡ Ok entry
+end_parts : (row : ℕ) (shares : List Share) (o : Option RowProofParts) (rest : List ℕ) (entry : NsEntry) → row_end row shares o rest ≡ Ok entry
     → HasProof row shares o rest entry
 end_parts row shares None rest entry e = absurd cc
 end_parts row shares (Some proof) rest entry e =
@@ -211,12 +211,12 @@ parts_back row bytes entry fits e =
     let a = then_ok (row_proof row) (shares_at 512 bytes) entry e in
     let shares : List Share = a.0.0 in
     let n1 = read_are_shares 512 bytes a.0.0 a.0.1 fits a.1 in
-    let b = then_ok (row_end row shares) (message_at (λ rest part. row_proof_left (length shares) part) 2 a.0.1) entry a.2 in
+    let b = then_ok (row_end row shares) (optional_message (λ rest part. row_proof_left (length shares) part) 2 a.0.1) entry a.2 in
     let has = end_parts row shares b.0.0 b.0.1 entry b.2 in
     let start : ℕ = has.proof.0 in
     let nodes : List Digest = has.proof.1.0 in
     let hashes : List Digest = has.proof.1.1 in
-    let m = message_back (λ rest part. row_proof_left (length shares) part) 2 a.0.1 has.proof b.0.1 (omega arith) n1.fits (b.1 ∙ ap (λ (o : Option ProofParts). Ok (o, b.0.1)) has.proof_is) in
+    let m = message_back (λ rest part. row_proof_left (length shares) part) 2 a.0.1 has.proof b.0.1 (omega arith) n1.fits (b.1 ∙ ap (λ (o : Option RowProofParts). Ok (o, b.0.1)) has.proof_is) in
     let p = row_proof_back (length shares) m.part has.proof m.part_fits m.read in
     let behind : a.0.1 ≡ bytes_field 2 (row_proof_text start (length shares) nodes hashes) =
     m.parts ∙ ap₂ (λ (l r : List ℕ). bytes_field 2 l ++ r) p.parts has.none ∙ append-nil (bytes_field 2 (row_proof_text start (length shares) nodes hashes)) in
@@ -240,40 +240,40 @@ parts_back row bytes entry fits e =
 
 -- an entry of the row that has a message, which the bytes are
 pub row_back : (row : ℕ) (bytes : List ℕ) (entry : NsEntry) → AreBytes bytes → row_left row bytes ≡ Ok entry
-    → (entry.row ≡ row) × HasMessage entry.found × (bytes ≡ found_text entry.found)
+    → (entry.row ≡ row) × FoundHasMessage entry.found × (bytes ≡ found_message entry.found)
 row_back row bytes entry fits e =
     let was = parts_back row bytes entry fits e in
     let is = found_is was.shares was.start was.nodes was.hashes was.are in (
       sym (ap (λ (x : NsEntry). x.row) was.entry_is),
-      subst (λ (x : NsEntry). HasMessage x.found) was.entry_is is.has,
-      was.parts ∙ is.text ∙ ap (λ (x : NsEntry). found_text x.found) was.entry_is,
+      subst (λ (x : NsEntry). FoundHasMessage x.found) was.entry_is is.has,
+      was.parts ∙ is.text ∙ ap (λ (x : NsEntry). found_message x.found) was.entry_is,
     )
 
 pub read_is_row : (row : ℕ) (bytes : List ℕ) (entry : NsEntry) → AreBytes bytes → row_value row bytes ≡ Ok entry
-    → (entry.row ≡ row) × HasMessage entry.found × (bytes ≡ found_text entry.found)
+    → (entry.row ≡ row) × FoundHasMessage entry.found × (bytes ≡ found_message entry.found)
 read_is_row row bytes entry fits e = row_back row bytes entry fits (placed_ok (length bytes) (row_left row bytes) entry e)
 
 -- ---- as the code reads it
 
-module _ (row count : ℕ) (bytes behind : List ℕ) (first : shares_at 512 bytes ≡ Ok (shares_in count bytes, behind)) where
+module _ (row count : ℕ) (bytes behind : List ℕ) (first : shares_at 512 bytes ≡ Ok (tagged_shares count bytes, behind)) where
   -- so many shares lie in front
-  behind_shares : (r : Result (Option ProofParts × List ℕ) ℕ) → message_at (λ rest part. row_proof_left count part) 2 behind ≡ r
-      → row_left row bytes ≡ then_read (row_end row (shares_in count bytes)) r
+  behind_shares : (r : Result (Option RowProofParts × List ℕ) ℕ) → optional_message (λ rest part. row_proof_left count part) 2 behind ≡ r
+      → row_left row bytes ≡ then_read (row_end row (tagged_shares count bytes)) r
   behind_shares r second =
-      let shares : List Share = shares_in count bytes in
+      let shares : List Share = tagged_shares count bytes in
       ap (then_read (row_proof row)) first
-      ∙ ap (λ (n : ℕ). then_read (row_end row shares) (message_at (λ rest part. row_proof_left n part) 2 behind)) (length-entries (share_behind 6) 518 count bytes)
+      ∙ ap (λ (n : ℕ). then_read (row_end row shares) (optional_message (λ rest part. row_proof_left n part) 2 behind)) (length-entries (share_behind 6) 518 count bytes)
       ∙ ap (then_read (row_end row shares)) second
 
   -- the proof is wrong
-  pub row_refused : (left : ℕ) → message_at (λ rest part. row_proof_left count part) 2 behind ≡ Err left → row_left row bytes ≡ Err left
+  pub row_refused : (left : ℕ) → optional_message (λ rest part. row_proof_left count part) 2 behind ≡ Err left → row_left row bytes ≡ Err left
   row_refused left second = behind_shares (Err left) second
 
   -- the proof is there
-  pub row_found : (o : Option ProofParts) (proof : ProofParts) (rest : List ℕ) → o ≡ Some proof
-      → message_at (λ rest part. row_proof_left count part) 2 behind ≡ Ok (o, rest) → (b : Bool) → eqb (length rest) 0 ≡ b
-      → row_left row bytes ≡ cond b (Ok (record { row = row; found = found_by (shares_in count bytes) proof.0 proof.1.0 proof.1.1 })) (Err (length rest))
+  pub row_found : (o : Option RowProofParts) (proof : RowProofParts) (rest : List ℕ) → o ≡ Some proof
+      → optional_message (λ rest part. row_proof_left count part) 2 behind ≡ Ok (o, rest) → (b : Bool) → eqb (length rest) 0 ≡ b
+      → row_left row bytes ≡ cond b (Ok (record { row = row; found = found_by (tagged_shares count bytes) proof.0 proof.1.0 proof.1.1 })) (Err (length rest))
   row_found o proof rest there second b test =
       behind_shares (Ok (o, rest)) second
-      ∙ ap (λ (x : Option ProofParts). row_end row (shares_in count bytes) x rest) there
-      ∙ ap (λ (b : Bool). cond b (Ok (record { row = row; found = found_by (shares_in count bytes) proof.0 proof.1.0 proof.1.1 })) (Err (length rest))) test
+      ∙ ap (λ (x : Option RowProofParts). row_end row (tagged_shares count bytes) x rest) there
+      ∙ ap (λ (b : Bool). cond b (Ok (record { row = row; found = found_by (tagged_shares count bytes) proof.0 proof.1.0 proof.1.1 })) (Err (length rest))) test

@@ -11,7 +11,7 @@ use Rattle.celestia_pb.specs.Reading.{then_read}
 use Rattle.celestia_pb.specs.Digests.{digests_text, digests_at, digests_in, entry_digest}
 use Rattle.celestia_pb.specs.Messages.{number_left}
 use Rattle.celestia_pb.specs.Inclusions.{is_stop, is_flag}
-use Rattle.celestia_pb.specs.RowProofs.{leaf_count, hash_count, ProofParts, row_proof_text, is_short, is_complete, row_proof_end, row_proof_flag, row_proof_hashes, row_proof_nodes, row_proof_stop, row_proof_left}
+use Rattle.celestia_pb.specs.RowProofs.{leaf_count, hash_count, RowProofParts, row_proof_text, is_short, has_all_parts, row_proof_end, row_proof_flag, row_proof_hashes, row_proof_nodes, row_proof_stop, row_proof_left}
 use Rattle.celestia_pb.proofs.Steps.{cond_ok, then_ok}
 use Rattle.celestia_pb.proofs.DigestLemmas.{begins_digests, digests_are_read, read_are_digests}
 use Rattle.celestia_pb.proofs.EntryLemmas.{length-digests_text}
@@ -84,7 +84,7 @@ row_proof_is_read start count nodes hashes short lt all few leaves same =
     let none8 : begins 8 t2 ≡ false =
     begins_number 8 2 stop t3 (omega arith) refl (begins_digests 8 3 nodes t4 (omega arith) refl (begins_digests 8 4 hashes t5 (omega arith) refl (flag_front 8 refl))) in
     let many : length hashes ≤ hash_count count = omega (arith, same) in
-    let whole : is_complete count start stop (length hashes) 1 0 ≡ true =
+    let whole : has_all_parts count start stop (length hashes) 1 0 ≡ true =
     and_from _ _ (eqb_self stop) (and_from _ _ (eqb_of (length hashes) (hash_count count) same) refl) in
     ap (then_read (row_proof_stop count)) (number_left_is_read is_short 1 start t2 (lt-ltb start (2 ^ 16) short) (omega arith) (omega arith) none8)
     ∙ ap (then_read (row_proof_nodes count start)) (number_left_is_read (is_stop start (leaf_count count)) 2 stop t3 (or_self stop) (omega arith) lt none16)
@@ -106,7 +106,7 @@ pub record IsRowProofRead (count : ℕ) (bytes : List ℕ) (start : ℕ) (nodes 
   pub parts : bytes ≡ row_proof_text start count nodes hashes
 
 -- what is read as a proof was written so
-pub row_proof_back : (count : ℕ) (bytes : List ℕ) (x : ProofParts) → AreBytes bytes → row_proof_left count bytes ≡ Ok x
+pub row_proof_back : (count : ℕ) (bytes : List ℕ) (x : RowProofParts) → AreBytes bytes → row_proof_left count bytes ≡ Ok x
     → IsRowProofRead count bytes x.0 x.1.0 x.1.1
 row_proof_back count bytes x fits e =
     let s = then_ok (row_proof_stop count) (number_left is_short 1 bytes) x e in
@@ -126,7 +126,7 @@ row_proof_back count bytes x fits e =
     let flag : ℕ = f.0.0 in
     let rest : List ℕ = f.0.1 in
     let n5 = number_left_back is_flag 5 h.0.1 f.0 (omega arith) n4.fits f.1 in
-    let test = cond_ok (is_complete count start stop (length hashes) flag (length rest)) (start, (nodes, hashes)) x (length rest) f.2 in
+    let test = cond_ok (has_all_parts count start stop (length hashes) flag (length rest)) (start, (nodes, hashes)) x (length rest) f.2 in
     let w = and_parts (eqb (length rest) 0) ((stop == start + leaf_count count) && ((length hashes == hash_count count) && (flag == 1))) test.0 in
     let p = and_parts (eqb stop (start + leaf_count count)) ((length hashes == hash_count count) && (flag == 1)) w.1 in
     let q = and_parts (eqb (length hashes) (hash_count count)) (eqb flag 1) p.1 in
@@ -139,7 +139,7 @@ row_proof_back count bytes x fits e =
     let t3 : t.0.1 ≡ digests_text 3 nodes ++ (digests_text 4 hashes ++ number_text 5 1) = n3.parts ∙ ap (λ (l : List ℕ). digests_text 3 nodes ++ l) t4 in
     let t2 : s.0.1 ≡ number_text 2 (start + leaf_count count) ++ (digests_text 3 nodes ++ (digests_text 4 hashes ++ number_text 5 1)) =
     n2.parts ∙ ap₂ (λ (k : ℕ) (l : List ℕ). number_text 2 k ++ l) is_stop t3 in
-    subst (λ (y : ProofParts). IsRowProofRead count bytes y.0 y.1.0 y.1.1) test.1 (record {
+    subst (λ (y : RowProofParts). IsRowProofRead count bytes y.0 y.1.0 y.1.1) test.1 (record {
       short = short;
       few = n3.few;
       nodes_are = n3.are;
@@ -155,7 +155,7 @@ pub row_proof_found : (count : ℕ) (bytes : List ℕ) (start place leaves most 
     (last : List ℕ) (flag : ℕ) (rest : List ℕ) → place ≡ start → leaves ≡ leaf_count count → most ≡ hash_count count → number_left is_short 1 bytes ≡ Ok (start, behind)
     → number_left (is_stop place leaves) 2 behind ≡ Ok (stop, nodes) → digests_at 3 20 nodes ≡ Ok (digests_in many nodes, after)
     → digests_at 4 most after ≡ Ok (digests_in hashes after, last) → number_left is_flag 5 last ≡ Ok (flag, rest)
-    → (b : Bool) → is_complete count place stop hashes flag (length rest) ≡ b
+    → (b : Bool) → has_all_parts count place stop hashes flag (length rest) ≡ b
     → row_proof_left count bytes ≡ cond b (Ok (start, (digests_in many nodes, digests_in hashes after))) (Err (length rest))
 row_proof_found count bytes start place leaves most behind stop nodes many after hashes last flag rest same is_leaves is_most first second third fourth fifth b test =
     let told : List Digest = digests_in many nodes in
@@ -166,4 +166,4 @@ row_proof_found count bytes start place leaves most behind stop nodes many after
     ∙ ap (then_read (row_proof_flag count start stop told)) (ap (λ (m : ℕ). digests_at 4 m after) (sym is_most) ∙ fourth)
     ∙ ap (then_read (row_proof_end count start stop told found)) fifth
     ∙ ap (λ (b : Bool). cond b (Ok (start, (told, found))) (Err (length rest)))
-    (ap₂ (λ (p h : ℕ). is_complete count p stop h flag (length rest)) (sym same) (length-entries entry_digest 92 hashes after) ∙ test)
+    (ap₂ (λ (p h : ℕ). has_all_parts count p stop h flag (length rest)) (sym same) (length-entries entry_digest 92 hashes after) ∙ test)

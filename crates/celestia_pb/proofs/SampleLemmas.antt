@@ -18,10 +18,10 @@ use Rattle.proto_fields.proofs.FieldLemmas.{no_fields, last_of-none}
 use Rattle.proto_fields.proofs.Options.{and_then_parts}
 use Rattle.proto_fields.proofs.CanonicalLemmas.{number_fields_of, part_fields_of, number_is_read, read_is_number, part_read_back, read_is_part_field}
 use Rattle.celestia_pb.specs.declared.sample.Sample.{Sample}
-use Rattle.celestia_pb.specs.Reading.{then_read, or_left, placed}
-use Rattle.celestia_pb.specs.Messages.{message_at}
+use Rattle.celestia_pb.specs.Reading.{then_read, or_left, with_offset}
+use Rattle.celestia_pb.specs.Messages.{optional_message}
 use Rattle.celestia_pb.specs.Inclusions.{inclusion_text, inclusion_left}
-use Rattle.celestia_pb.specs.Samples.{IsCell, IsSample, share_text, axis_number, place_on, sample_text, if_share, share_at, share_end, share_left, axis_of, axis_at, place_wanted, only_nodes, path_left, sample_of, sample_axis, sample_path, sample_left, sample_value}
+use Rattle.celestia_pb.specs.Samples.{IsCell, IsSample, share_message, axis_number, place_on, sample_text, if_share, share_front, share_end, share_left, axis_of_number, axis_at, place_wanted, only_nodes, path_left, sample_of, sample_axis, sample_path, sample_left, sample_value}
 use Rattle.celestia_pb.proofs.Steps.{same_ok, cond_ok, then_ok, placed_ok}
 use Rattle.celestia_pb.proofs.DigestLemmas.{field_fits}
 use Rattle.celestia_pb.proofs.MessageLemmas.{field_few, message_is_read, message_back}
@@ -36,21 +36,21 @@ place_fits Col cell is = is.row
 -- ---- what is written is read
 
 -- the message of a share
-pub share_is_read : (share : Share) → IsShare share → share_left (share_text share) ≡ Ok share
+pub share_is_read : (share : Share) → IsShare share → share_left (share_message share) ≡ Ok share
 share_is_read share is =
-    let whole : share_text share ≡ share_text share ++ [] = sym (append-nil (share_text share)) in
+    let whole : share_message share ≡ share_message share ++ [] = sym (append-nil (share_message share)) in
     let size : length share.0 ≡ 512 = is.size_is in
     let test : eqb (length share.0) 512 ≡ true = grind (arith, nat_tests) in
     ap share_left whole
-    ∙ ap (λ (o : Option (List ℕ × List ℕ)). then_read share_end (or_left (share_text share ++ []) (option_and_then if_share o))) (part_read_back 1 share.0 [] (omega arith) (omega arith))
-    ∙ ap (λ (b : Bool). then_read share_end (or_left (share_text share ++ []) (cond b (Some (share, [])) None))) test
+    ∙ ap (λ (o : Option (List ℕ × List ℕ)). then_read share_end (or_left (share_message share ++ []) (option_and_then if_share o))) (part_read_back 1 share.0 [] (omega arith) (omega arith))
+    ∙ ap (λ (b : Bool). then_read share_end (or_left (share_message share ++ []) (cond b (Some (share, [])) None))) test
 
 -- the number of an axis, behind which nothing follows
 axis_is_read : (axis : Axis) → axis_at (number_text 3 (axis_number axis)) ≡ Some (axis, [])
 axis_is_read Row =
-    ap axis_at (sym (append-nil (number_text 3 0))) ∙ ap (option_and_then axis_of) (number_is_read 3 0 [] (omega arith) (omega arith) refl)
+    ap axis_at (sym (append-nil (number_text 3 0))) ∙ ap (option_and_then axis_of_number) (number_is_read 3 0 [] (omega arith) (omega arith) refl)
 axis_is_read Col =
-    ap axis_at (sym (append-nil (number_text 3 1))) ∙ ap (option_and_then axis_of) (number_is_read 3 1 [] (omega arith) (omega arith) refl)
+    ap axis_at (sym (append-nil (number_text 3 1))) ∙ ap (option_and_then axis_of_number) (number_is_read 3 1 [] (omega arith) (omega arith) refl)
 
 -- it is 0 or itself
 or_self : (n : ℕ) → ((n == 0) || (n == n)) ≡ true
@@ -74,20 +74,20 @@ left_is_read cell s is_cell is =
     let behind : List ℕ = bytes_field 2 proof ++ axis in
     let size : length s.share.0 ≡ 512 = is.share.size_is in
     let few : length s.path ≤ 10 = is.few in
-    let short : length (share_text s.share) < 2 ^ 64 = omega (arith, field_few 1 s.share.0) in
+    let short : length (share_message s.share) < 2 ^ 64 = omega (arith, field_few 1 s.share.0) in
     let small : length proof < 2 ^ 64 = omega (arith, inclusion_few (place_on s.axis cell) 1 s.path is.nodes) in
-    ap (then_read (sample_path cell)) (message_is_read (λ rest part. share_left part) 1 (share_text s.share) behind s.share (omega arith) short (share_is_read s.share is.share))
+    ap (then_read (sample_path cell)) (message_is_read (λ rest part. share_left part) 1 (share_message s.share) behind s.share (omega arith) short (share_is_read s.share is.share))
     ∙ ap (then_read (sample_axis (Some s.share))) (message_is_read (path_left cell) 2 proof axis s.path (omega arith) small (path_is_read cell s is_cell is))
     ∙ ap (λ (o : Option (Axis × List ℕ)). then_read (sample_of (Some s.share) (Some s.path)) (or_left axis o)) (axis_is_read s.axis)
 
 pub sample_is_read : (cell : Cell) (s : Sample) → IsCell cell → IsSample s → sample_value cell (sample_text cell s) ≡ Ok s
-sample_is_read cell s is_cell is = ap (placed (length (sample_text cell s))) (left_is_read cell s is_cell is)
+sample_is_read cell s is_cell is = ap (with_offset (length (sample_text cell s))) (left_is_read cell s is_cell is)
 
 -- ---- what is read was written
 
 -- what stands in front of the end of the message of a share
-share_parts : (bytes : List ℕ) (share : Share) (o : Option (Share × List ℕ)) → AreBytes bytes → share_at bytes ≡ o → then_read share_end (or_left bytes o) ≡ Ok share
-    → IsShare share × (bytes ≡ share_text share)
+share_parts : (bytes : List ℕ) (share : Share) (o : Option (Share × List ℕ)) → AreBytes bytes → share_front bytes ≡ o → then_read share_end (or_left bytes o) ≡ Ok share
+    → IsShare share × (bytes ≡ share_message share)
 share_parts bytes share None fits is e = absurd cc
 share_parts bytes share (Some x) fits is e =
     let test = cond_ok (eqb (length x.1) 0) x.0 share (length x.1) e in
@@ -104,8 +104,8 @@ share_parts bytes share (Some x) fits is e =
     )
 
 -- the share that a message is
-pub share_back : (bytes : List ℕ) (share : Share) → AreBytes bytes → share_left bytes ≡ Ok share → IsShare share × (bytes ≡ share_text share)
-share_back bytes share fits e = share_parts bytes share (share_at bytes) fits refl e
+pub share_back : (bytes : List ℕ) (share : Share) → AreBytes bytes → share_left bytes ≡ Ok share → IsShare share × (bytes ≡ share_message share)
+share_back bytes share fits e = share_parts bytes share (share_front bytes) fits refl e
 
 -- of the numbers 0 and 1
 axis_cases : (zero one : Bool) (n : ℕ) (rest : List ℕ) (x : Axis × List ℕ) → eqb n 0 ≡ zero → eqb n 1 ≡ one
@@ -119,13 +119,13 @@ axis_cases false true n rest x z o e =
 axis_cases false false n rest x z o e = absurd cc
 
 -- the axis that a number is
-pub axis_number-is : (n : ℕ) (rest : List ℕ) (x : Axis × List ℕ) → axis_of (n, rest) ≡ Some x → (n ≡ axis_number x.0) × (rest ≡ x.1)
+pub axis_number-is : (n : ℕ) (rest : List ℕ) (x : Axis × List ℕ) → axis_of_number (n, rest) ≡ Some x → (n ≡ axis_number x.0) × (rest ≡ x.1)
 axis_number-is n rest x e = axis_cases (eqb n 0) (eqb n 1) n rest x refl refl e
 
 -- the axis at the front
 axis_back : (bytes : List ℕ) (x : Axis × List ℕ) → AreBytes bytes → axis_at bytes ≡ Some x → bytes ≡ number_text 3 (axis_number x.0) ++ x.1
 axis_back bytes x fits e =
-    let read = and_then_parts axis_of (canonical_number 3 bytes) x e in
+    let read = and_then_parts axis_of_number (canonical_number 3 bytes) x e in
     let is = axis_number-is read.0.0 read.0.1 x read.2 in
     (read_is_number 3 read.0.0 bytes read.0.1 (omega arith) fits read.1).1 ∙ ap₂ (λ (n : ℕ) (l : List ℕ). number_text 3 n ++ l) is.0 is.1
 
@@ -167,8 +167,8 @@ record WasRead (cell : Cell) (bytes : List ℕ) (s : Sample) : Type 0 where
 -- what is read as a sample was written so
 was_read : (cell : Cell) (bytes : List ℕ) (s : Sample) → AreBytes bytes → sample_left cell bytes ≡ Ok s → WasRead cell bytes s
 was_read cell bytes s fits e =
-    let a = then_ok (sample_path cell) (message_at (λ rest part. share_left part) 1 bytes) s e in
-    let b = then_ok (sample_axis a.0.0) (message_at (path_left cell) 2 a.0.1) s a.2 in
+    let a = then_ok (sample_path cell) (optional_message (λ rest part. share_left part) 1 bytes) s e in
+    let b = then_ok (sample_axis a.0.0) (optional_message (path_left cell) 2 a.0.1) s a.2 in
     let c = then_ok (sample_of a.0.0 b.0.0) (or_left b.0.1 (axis_at b.0.1)) s b.2 in
     let has = of_parts a.0.0 b.0.0 c.0.0 c.0.1 s c.2 in
     let share = message_back (λ rest part. share_left part) 1 bytes s.share a.0.1 (omega arith) fits (a.1 ∙ ap (λ (o : Option Share). Ok (o, a.0.1)) has.share_is) in
@@ -206,7 +206,7 @@ read_is_sample cell bytes s fits e =
 -- the fields of a sample
 abbrev fields_in : Cell → Sample → List FieldParts
 fields_in cell s =
-    part_field 1 (share_text s.share) ∷ part_field 2 (inclusion_text (place_on s.axis cell) 1 s.path) ∷ (number_fields 3 (axis_number s.axis) ++ [])
+    part_field 1 (share_message s.share) ∷ part_field 2 (inclusion_text (place_on s.axis cell) 1 s.path) ∷ (number_fields 3 (axis_number s.axis) ++ [])
 
 -- an axis is one field or none
 axis_fields : (axis : Axis) → fields_of (number_text 3 (axis_number axis)) ≡ Some (number_fields 3 (axis_number axis) ++ [])
@@ -221,7 +221,7 @@ text_fields cell s is =
     let proof : List ℕ = inclusion_text (place_on s.axis cell) 1 s.path in
     let size : length s.share.0 ≡ 512 = is.share.size_is in
     let few : length s.path ≤ 10 = is.few in
-    part_fields_of 1 (share_text s.share) (bytes_field 2 proof ++ axis) _ (omega arith) (omega arith) (omega (arith, field_few 1 s.share.0))
+    part_fields_of 1 (share_message s.share) (bytes_field 2 proof ++ axis) _ (omega arith) (omega arith) (omega (arith, field_few 1 s.share.0))
     (part_fields_of 2 proof axis _ (omega arith) (omega arith) (omega (arith, inclusion_few (place_on s.axis cell) 1 s.path is.nodes)) (axis_fields s.axis))
 
 -- no bytes are in the field of an axis
@@ -235,11 +235,11 @@ axis_last share proof Row = last_of-none 0
 axis_last share proof Col = last_of-cons 0 1 [] ∙ last_of-none 1
 
 pub sample_is_common : (cell : Cell) (bytes : List ℕ) (s : Sample) → AreBytes bytes → sample_value cell bytes ≡ Ok s
-    → (fields : List FieldParts) × (fields_of bytes ≡ Some fields) × (all_bytes 1 fields ≡ share_text s.share ∷ [])
+    → (fields : List FieldParts) × (fields_of bytes ≡ Some fields) × (all_bytes 1 fields ≡ share_message s.share ∷ [])
     × (all_bytes 2 fields ≡ inclusion_text (place_on s.axis cell) 1 s.path ∷ []) × (last_number 3 fields ≡ axis_number s.axis)
 sample_is_common cell bytes s fits e =
     let was = was_read cell bytes s fits (placed_ok (length bytes) (sample_left cell bytes) s e) in
-    let share : List ℕ = share_text s.share in
+    let share : List ℕ = share_message s.share in
     let proof : List ℕ = inclusion_text (place_on s.axis cell) 1 s.path in (
       fields_in cell s,
       ap fields_of was.text ∙ text_fields cell s was.is,
@@ -250,10 +250,10 @@ sample_is_common cell bytes s fits e =
 
 -- the message of a share has its bytes
 pub share_is_common : (share : Share) → IsShare share
-    → (fields : List FieldParts) × (fields_of (share_text share) ≡ Some fields) × (all_bytes 1 fields ≡ share.0 ∷ [])
+    → (fields : List FieldParts) × (fields_of (share_message share) ≡ Some fields) × (all_bytes 1 fields ≡ share.0 ∷ [])
 share_is_common share is =
     let size : length share.0 ≡ 512 = is.size_is in (
       part_field 1 share.0 ∷ [],
-      ap fields_of (sym (append-nil (share_text share))) ∙ part_fields_of 1 share.0 [] [] (omega arith) (omega arith) (omega arith) no_fields,
+      ap fields_of (sym (append-nil (share_message share))) ∙ part_fields_of 1 share.0 [] [] (omega arith) (omega arith) (omega arith) no_fields,
       refl,
     )

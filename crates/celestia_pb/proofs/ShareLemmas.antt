@@ -6,7 +6,7 @@ use Rattle.namespace_id.specs.Shares.{IsShare, AreShares}
 use Rattle.proto_fields.specs.Spelled.{bytes_field}
 use Rattle.proto_fields.specs.Canonical.{begins_part}
 use Rattle.celestia_pb.specs.Reading.{then_read}
-use Rattle.celestia_pb.specs.Samples.{share_text, share_left}
+use Rattle.celestia_pb.specs.Samples.{share_message, share_left}
 use Rattle.celestia_pb.specs.RowShares.{share_field_text, shares_text, share_field, with_share, before_shares, shares_at}
 use Rattle.celestia_pb.proofs.DigestLemmas.{ok_parts}
 use Rattle.celestia_pb.proofs.MessageLemmas.{field_few, message_none, message_is_read, message_back, message_absent}
@@ -18,8 +18,8 @@ use Rattle.celestia_pb.proofs.SampleLemmas.{share_is_read, share_back}
 pub share_field_is_read : (share : Share) (rest : List ℕ) → IsShare share → share_field (share_field_text share ++ rest) ≡ Ok (Some share, rest)
 share_field_is_read share rest is =
     let size : length share.0 ≡ 512 = is.size_is in
-    let short : length (share_text share) < 2 ^ 64 = omega (arith, field_few 1 share.0) in
-    message_is_read (λ rest part. share_left part) 1 (share_text share) rest share (omega arith) short (share_is_read share is)
+    let short : length (share_message share) < 2 ^ 64 = omega (arith, field_few 1 share.0) in
+    message_is_read (λ rest part. share_left part) 1 (share_message share) rest share (omega arith) short (share_is_read share is)
 
 -- what is read as one
 pub record IsShareRead (bytes : List ℕ) (share : Share) (rest : List ℕ) : Type 0 where

@@ -2,7 +2,7 @@
 use Rattle.std.proofs.Common.{◌≡◌, ◌∙◌, ℕ, suc, ◌+◌, ◌-◌, ◌*◌, ◌<◌, ◌≤◌, List, [], ◌∷◌, ◌++◌, length, drop, Some, None, Result, Ok, Err, refl, sym, ap, arith, append_assoc, append-nil}
 use Rattle.namespace_id.specs.declared.shares.Share.{Share}
 use Rattle.namespace_id.specs.Bytes.{AreBytes}
-use Rattle.celestia_pb.specs.RowShares.{share_field, with_share, shares_at, shares_in}
+use Rattle.celestia_pb.specs.RowShares.{share_field, with_share, shares_at, tagged_shares}
 use Rattle.celestia_pb.specs.ShareLists.{share_behind}
 use Rattle.celestia_pb.proofs.ShareLemmas.{read_is_share, shares_at-none, shares_at-end, shares_at-wrong, shares_at-more}
 use Rattle.celestia_pb.proofs.ShareEntries.{share_behind-is, share_rest, share_length}
@@ -15,7 +15,7 @@ with_shares shares (Err left) = Err left
 
 -- so many of these bytes were counted, and the rest is left
 pub record IsSharing (most : ℕ) (bytes : List ℕ) (count : ℕ) (rest : List ℕ) : Type 0 where
-  pub all : shares_at most bytes ≡ with_shares (shares_in count bytes) (shares_at (most - count) rest)
+  pub all : shares_at most bytes ≡ with_shares (tagged_shares count bytes) (shares_at (most - count) rest)
   pub behind : rest ≡ drop (518 * count) bytes
   pub size : 518 * count + length rest ≡ length bytes
   pub few : count ≤ most
@@ -37,7 +37,7 @@ pub sharing_begins : (most : ℕ) (bytes : List ℕ) → AreBytes bytes → IsSh
 sharing_begins most bytes fits = record {
   all = with_shares-none (shares_at most bytes)
       ∙ ap (λ (l : List Share). with_shares l (shares_at most bytes)) (sym (entries-none (share_behind 6) 518 bytes))
-      ∙ ap (λ (k : ℕ). with_shares (shares_in 0 bytes) (shares_at k bytes)) (omega arith);
+      ∙ ap (λ (k : ℕ). with_shares (tagged_shares 0 bytes) (shares_at k bytes)) (omega arith);
   behind = refl;
   size = omega arith;
   few = omega arith;
@@ -50,26 +50,26 @@ module _ (most : ℕ) (bytes : List ℕ) (count : ℕ) (rest : List ℕ) (at : I
   left_more more = let e : most - count ≡ suc (most - (count + 1)) = omega arith in ap (λ (k : ℕ). shares_at k rest) e
 
   -- none is there
-  pub sharing_stops : (after : List ℕ) → share_field rest ≡ Ok (None, after) → shares_at most bytes ≡ Ok (shares_in count bytes, rest)
+  pub sharing_stops : (after : List ℕ) → share_field rest ≡ Ok (None, after) → shares_at most bytes ≡ Ok (tagged_shares count bytes, rest)
   sharing_stops after none =
       at.all
-      ∙ ap (with_shares (shares_in count bytes)) (shares_at-end (most - count) rest after none)
-      ∙ ap (λ (l : List Share). Ok (l, rest)) (append-nil (shares_in count bytes))
+      ∙ ap (with_shares (tagged_shares count bytes)) (shares_at-end (most - count) rest after none)
+      ∙ ap (λ (l : List Share). Ok (l, rest)) (append-nil (tagged_shares count bytes))
 
   -- no more may be there
-  pub sharing_ends : most ≤ count → shares_at most bytes ≡ Ok (shares_in count bytes, rest)
+  pub sharing_ends : most ≤ count → shares_at most bytes ≡ Ok (tagged_shares count bytes, rest)
   sharing_ends full =
       let e : most - count ≡ 0 = omega arith in
       at.all
-      ∙ ap (λ (k : ℕ). with_shares (shares_in count bytes) (shares_at k rest)) e
-      ∙ ap (with_shares (shares_in count bytes)) (shares_at-none rest)
-      ∙ ap (λ (l : List Share). Ok (l, rest)) (append-nil (shares_in count bytes))
+      ∙ ap (λ (k : ℕ). with_shares (tagged_shares count bytes) (shares_at k rest)) e
+      ∙ ap (with_shares (tagged_shares count bytes)) (shares_at-none rest)
+      ∙ ap (λ (l : List Share). Ok (l, rest)) (append-nil (tagged_shares count bytes))
 
   -- the field of one is wrong
   pub sharing_refuses : count < most → (left : ℕ) → share_field rest ≡ Err left → shares_at most bytes ≡ Err left
   sharing_refuses more left wrong =
       at.all
-      ∙ ap (with_shares (shares_in count bytes)) (left_more more ∙ shares_at-wrong (most - (count + 1)) rest left wrong)
+      ∙ ap (with_shares (tagged_shares count bytes)) (left_more more ∙ shares_at-wrong (most - (count + 1)) rest left wrong)
 
   -- one is there
   pub sharing_goes : count < most → (share : Share) (after : List ℕ) → share_field rest ≡ Ok (Some share, after) → IsSharing most bytes (count + 1) after
@@ -80,9 +80,9 @@ module _ (most : ℕ) (bytes : List ℕ) (count : ℕ) (rest : List ℕ) (at : I
       let is : share ≡ share_behind 6 (drop (518 * count) bytes) = sym (share_behind-is share after size) ∙ ap (share_behind 6) (sym h.parts ∙ place) in
       record {
         all = at.all
-            ∙ ap (with_shares (shares_in count bytes)) (left_more more ∙ shares_at-more (most - (count + 1)) rest share after e)
-            ∙ with_shares-more (shares_in count bytes) share (shares_at (most - (count + 1)) after)
-            ∙ ap (λ (s : Share). with_shares (shares_in count bytes ++ s ∷ []) (shares_at (most - (count + 1)) after)) is
+            ∙ ap (with_shares (tagged_shares count bytes)) (left_more more ∙ shares_at-more (most - (count + 1)) rest share after e)
+            ∙ with_shares-more (tagged_shares count bytes) share (shares_at (most - (count + 1)) after)
+            ∙ ap (λ (s : Share). with_shares (tagged_shares count bytes ++ s ∷ []) (shares_at (most - (count + 1)) after)) is
             ∙ ap (λ (l : List Share). with_shares l (shares_at (most - (count + 1)) after)) (sym (entries-more (share_behind 6) 518 count bytes));
         behind = sym (share_rest share after size) ∙ ap (drop 518) (sym h.parts ∙ place) ∙ drop_more 518 count bytes;
         size = omega (arith, at.size, ap length h.parts, share_length share after size);

@@ -15,7 +15,7 @@ use Rattle.proto_fields.proofs.CanonicalLemmas.{number_fields_of, part_fields_of
 use Rattle.celestia_pb.specs.Laws.{bytes_of_all}
 use Rattle.celestia_pb.specs.SharePaths.{share_path_text}
 use Rattle.celestia_pb.specs.RootedRows.{row_path_text, rooted_row_text}
-use Rattle.celestia_pb.specs.ShareProofs.{name_of, id_in, version_in, share_proof_text, share_proof_value}
+use Rattle.celestia_pb.specs.ShareProofs.{name_of, id_in, name_version, share_proof_text, share_proof_value}
 use Rattle.celestia_pb.specs.ShareProofLaws.{IsShareProof}
 use Rattle.celestia_pb.specs.Digests.{digests_text}
 use Rattle.celestia_pb.proofs.CommonLemmas.{number_bytes, own_number, other_number}
@@ -197,14 +197,14 @@ text_common : (p : RootedParts) → IsShareProof p
     × (all_bytes 2 fields ≡ share_path_text p.message.cell.col p.message.path ∷ [])
     × (all_bytes 3 fields ≡ id_in (name_of p) ∷ [])
     × (all_bytes 4 fields ≡ rooted_row_text p.k p.message.cell.row p.root p.up ∷ [])
-    × (last_number 5 fields ≡ version_in (name_of p))
+    × (last_number 5 fields ≡ name_version (name_of p))
 text_common p is =
     let m = is.is.message in
     let share : List ℕ = p.message.share.0 in
     let path : List ℕ = share_path_text p.message.cell.col p.message.path in
     let id : List ℕ = id_in (name_of p) in
     let row : List ℕ = rooted_row_text p.k p.message.cell.row p.root p.up in
-    let version : ℕ = version_in (name_of p) in
+    let version : ℕ = name_version (name_of p) in
     let t5 : List ℕ = number_text 5 version in
     let t4 : List ℕ = bytes_field 4 row ++ t5 in
     let t3 : List ℕ = bytes_field 3 id ++ t4 in
@@ -235,7 +235,7 @@ pub share_proof_is_common : (bytes : List ℕ) (p : RootedParts) → AreBytes by
     × (all_bytes 2 fields ≡ share_path_text p.message.cell.col p.message.path ∷ [])
     × (all_bytes 3 fields ≡ id_in (name_of p) ∷ [])
     × (all_bytes 4 fields ≡ rooted_row_text p.k p.message.cell.row p.root p.up ∷ [])
-    × (last_number 5 fields ≡ version_in (name_of p))
+    × (last_number 5 fields ≡ name_version (name_of p))
 share_proof_is_common bytes p fits e =
     let read = read_is_share_proof bytes p fits e in
     let has = text_common p read.0 in

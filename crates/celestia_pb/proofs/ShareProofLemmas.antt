@@ -27,15 +27,15 @@ use Rattle.celestia_pb.specs.declared.rooted_row.Told.{Told}
 use Rattle.celestia_pb.specs.declared.rooted_row.RootedRow.{RootedRow}
 use Rattle.celestia_pb.specs.declared.share_proof.Names.{Names}
 use Rattle.celestia_pb.specs.declared.share_proof.Front.{Front}
-use Rattle.celestia_pb.specs.Reading.{then_read, or_left, placed}
-use Rattle.celestia_pb.specs.Messages.{number_left, message_at}
-use Rattle.celestia_pb.specs.Inclusions.{is_start}
-use Rattle.celestia_pb.specs.Samples.{if_share, share_at}
+use Rattle.celestia_pb.specs.Reading.{then_read, or_left, with_offset}
+use Rattle.celestia_pb.specs.Messages.{number_left, optional_message}
+use Rattle.celestia_pb.specs.Inclusions.{is_place_stated}
+use Rattle.celestia_pb.specs.Samples.{if_share, share_front}
 use Rattle.celestia_pb.specs.BefpEntries.{some_share, data_at}
 use Rattle.celestia_pb.specs.Aunts.{some_read, optional_at}
 use Rattle.celestia_pb.specs.SharePaths.{share_path_text, share_path_left}
 use Rattle.celestia_pb.specs.RootedRows.{rooted_row_text, has_column, has_names, is_total, is_row, rooted_row_left}
-use Rattle.celestia_pb.specs.ShareProofs.{is_along_row, name_of, id_in, version_in, share_proof_text, if_names, names_at, front_of, front_end, front_names, front_path, front_left, told_by, proof_of, proof_by, version_of, share_proof_end, share_proof_version, share_proof_row, share_proof_left, share_proof_value}
+use Rattle.celestia_pb.specs.ShareProofs.{is_along_row, name_of, id_in, name_version, share_proof_text, if_names, names_at, front_of, front_end, front_names, front_path, front_left, told_by, proof_of, proof_by, proved_version, share_proof_end, share_proof_version, share_proof_row, share_proof_left, share_proof_value}
 use Rattle.celestia_pb.specs.ShareProofLaws.{IsShareProof}
 use Rattle.celestia_pb.proofs.Steps.{cond_ok, then_ok, placed_ok}
 use Rattle.celestia_pb.proofs.Fronts.{begins_own}
@@ -52,11 +52,11 @@ same_read : (r : Result (Share × List ℕ) ℕ) → some_share r ≡ some_read 
 same_read (Ok read) = refl
 same_read (Err left) = refl
 
-data_is : (bytes : List ℕ) → data_at bytes ≡ optional_at share_at 1 bytes
-data_is bytes = ap (λ (r : Result (Option Share × List ℕ) ℕ). cond (begins_part 1 bytes) r (Ok (None, bytes))) (same_read (or_left bytes (share_at bytes)))
+data_is : (bytes : List ℕ) → data_at bytes ≡ optional_at share_front 1 bytes
+data_is bytes = ap (λ (r : Result (Option Share × List ℕ) ℕ). cond (begins_part 1 bytes) r (Ok (None, bytes))) (same_read (or_left bytes (share_front bytes)))
 
 -- a share is read back, whatever follows
-share_is_there : (share : Share) (rest : List ℕ) → length share.0 ≡ 512 → share_at (bytes_field 1 share.0 ++ rest) ≡ Some (share, rest)
+share_is_there : (share : Share) (rest : List ℕ) → length share.0 ≡ 512 → share_front (bytes_field 1 share.0 ++ rest) ≡ Some (share, rest)
 share_is_there share rest size =
     let test : eqb (length share.0) 512 ≡ true = grind (arith, nat_tests) in
     ap (option_and_then if_share) (part_read_back 1 share.0 rest (omega arith) (omega arith))
@@ -69,7 +69,7 @@ record IsShareRead (bytes : List ℕ) (share : Share) (rest : List ℕ) : Type 0
   fits : AreBytes rest
 
 -- what is read as a share was written so
-share_was_there : (bytes : List ℕ) (share : Share) (rest : List ℕ) → AreBytes bytes → share_at bytes ≡ Some (share, rest) → IsShareRead bytes share rest
+share_was_there : (bytes : List ℕ) (share : Share) (rest : List ℕ) → AreBytes bytes → share_front bytes ≡ Some (share, rest) → IsShareRead bytes share rest
 share_was_there bytes share rest fits e =
     let read = and_then_parts if_share (canonical_part 1 bytes) (share, rest) e in
     let test = cond_some (eqb (length read.0.0) 512) (record { 0 = read.0.0 }, read.0.1) (share, rest) read.2 in
@@ -128,7 +128,7 @@ id_few true share size = omega (arith, length-drop 1 (take 29 share.0), length-t
 id_few false share size = omega arith
 
 -- a version is a byte
-pub version_fits : (b : Bool) (share : Share) → IsShare share → version_in (named b share) < 256
+pub version_fits : (b : Bool) (share : Share) → IsShare share → name_version (named b share) < 256
 version_fits true share is =
     front_fits (take 29 share.0) (drop 29 share.0) (subst (λ (l : List ℕ). AreBytes l) (sym (take-append-drop 29 share.0)) is.fits) 0
 version_fits false share is = omega arith
@@ -184,7 +184,7 @@ row_is Col e = absurd cc
 eqb_self : (n : ℕ) → eqb n n ≡ true
 eqb_self n = grind (arith, nat_tests)
 
-start_self : (n : ℕ) → is_start (Some n) n ≡ true
+start_self : (n : ℕ) → is_place_stated (Some n) n ≡ true
 start_self n = grind (arith, nat_tests)
 
 module _ (p : RootedParts) (is : IsShareProof p) where
@@ -241,7 +241,7 @@ module _ (p : RootedParts) (is : IsShareProof p) where
 
   -- what follows the id
   abbrev behind : List ℕ
-  behind = bytes_field 4 (rooted_row_text p.k row p.root p.up) ++ number_text 5 (version_in (name_of p))
+  behind = bytes_field 4 (rooted_row_text p.k row p.root p.up) ++ number_text 5 (name_version (name_of p))
 
   -- what stands in front of the row's proof
   front_is_read : front_left (share_proof_text p) ≡ Ok (Some front, behind)
@@ -255,7 +255,7 @@ module _ (p : RootedParts) (is : IsShareProof p) where
       let short : length path < 2 ^ 64 = omega (arith, share_path_few col p.message.path m.nodes) in
       ap (then_read front_path) (
       data_is (share_proof_text p)
-      ∙ optional_is_read share_at 1 (share_proof_text p) share t2 (begins_own 1 share.0 t2 (omega arith)) (share_is_there share t2 size))
+      ∙ optional_is_read share_front 1 (share_proof_text p) share t2 (begins_own 1 share.0 t2 (omega arith)) (share_is_there share t2 size))
       ∙ ap (then_read (front_names (Some share))) (
       message_is_read (λ rest part. share_path_left part) 2 path t3 front.path (omega arith) short (share_path_is_read col p.message.path few_col m.nodes few))
       ∙ ap (then_read (front_end (Some share) (Some front.path))) (
@@ -265,7 +265,7 @@ module _ (p : RootedParts) (is : IsShareProof p) where
   left_is_read : share_proof_left (share_proof_text p) ≡ Ok p
   left_is_read =
       let text : List ℕ = rooted_row_text p.k row p.root p.up in
-      let version : ℕ = version_in (name_of p) in
+      let version : ℕ = name_version (name_of p) in
       let t5 : List ℕ = number_text 5 version in
       let few : length p.up ≤ 11 = is.few in
       let short : length text < 2 ^ 64 = omega (arith, rooted_row_few p.k row p.root p.up is.is.root is.is.up) in
@@ -276,7 +276,7 @@ module _ (p : RootedParts) (is : IsShareProof p) where
       message_is_read (λ rest part. rooted_row_left (Some told) part) 4 text t5 rooted (omega arith) short
       (rooted_row_is_read (Some told) p.k row p.root p.up total_is row_fits (omega (arith, few_k)) (omega (arith, few_row)) is.is.root is.is.up few))
       ∙ ap (share_proof_version (Some front) (Some rooted)) (sym (append-nil t5))
-      ∙ ap (then_read (share_proof_end (Some (proof_of front rooted)))) (number_left_is_read (is_start (Some version)) 5 version [] (start_self version) (omega arith) (omega arith) refl)
+      ∙ ap (then_read (share_proof_end (Some (proof_of front rooted)))) (number_left_is_read (is_place_stated (Some version)) 5 version [] (start_self version) (omega arith) (omega arith) refl)
       ∙ ap (λ (b : Bool). cond b (Ok (proof_of front rooted)) (Err 0)) (eqb_self version)
       ∙ ap (λ (a : Axis). Ok (record {
         k = p.k;
@@ -286,7 +286,7 @@ module _ (p : RootedParts) (is : IsShareProof p) where
       })) (sym along)
 
 pub share_proof_is_read : (p : RootedParts) → IsShareProof p → share_proof_value (share_proof_text p) ≡ Ok p
-share_proof_is_read p is = ap (placed (length (share_proof_text p))) (left_is_read p is)
+share_proof_is_read p is = ap (with_offset (length (share_proof_text p))) (left_is_read p is)
 
 -- ---- what is read was written
 
@@ -324,11 +324,11 @@ record IsFrontRead (bytes : List ℕ) (front : Front) (rest : List ℕ) : Type 0
 front_back : (bytes : List ℕ) (front : Front) (rest : List ℕ) → AreBytes bytes → front_left bytes ≡ Ok (Some front, rest) → IsFrontRead bytes front rest
 front_back bytes front rest fits e =
     let a = then_ok front_path (data_at bytes) (Some front, rest) e in
-    let b = then_ok (front_names a.0.0) (message_at (λ rest part. share_path_left part) 2 a.0.1) (Some front, rest) a.2 in
+    let b = then_ok (front_names a.0.0) (optional_message (λ rest part. share_path_left part) 2 a.0.1) (Some front, rest) a.2 in
     let c = then_ok (front_end a.0.0 b.0.0) (optional_at (names_at a.0.0) 3 b.0.1) (Some front, rest) b.2 in
     let same = ok_parts (front_of a.0.0 b.0.0 c.0.0) (Some front) c.0.1 rest c.2 in
     let has = front_parts a.0.0 b.0.0 c.0.0 front same.0 in
-    let first = optional_back share_at 1 bytes front.share a.0.1 (sym (data_is bytes) ∙ a.1 ∙ ap (λ (o : Option Share). Ok (o, a.0.1)) has.share_is) in
+    let first = optional_back share_front 1 bytes front.share a.0.1 (sym (data_is bytes) ∙ a.1 ∙ ap (λ (o : Option Share). Ok (o, a.0.1)) has.share_is) in
     let n1 = share_was_there bytes front.share a.0.1 fits first in
     let m = message_back (λ rest part. share_path_left part) 2 a.0.1 front.path b.0.1 (omega arith) n1.fits (b.1 ∙ ap (λ (o : Option SharePath). Ok (o, b.0.1)) has.path_is) in
     let n2 = share_path_back m.part front.path m.part_fits m.read in
@@ -357,7 +357,7 @@ record IsEndOf (front : Option Front) (row : Option RootedRow) (version : ℕ) (
   rooted : RootedRow
   row_is : row ≡ Some rooted
   proof_is : proof_of before rooted ≡ p
-  version_is : version ≡ version_in (name_of (proof_of before rooted))
+  version_is : version ≡ name_version (name_of (proof_of before rooted))
   none : rest ≡ []
 
 end_parts : (front : Option Front) (row : Option RootedRow) (version : ℕ) (rest : List ℕ) (p : RootedParts) → share_proof_end (proof_by front row) version rest ≡ Ok p
@@ -366,15 +366,15 @@ end_parts None row version rest p e = absurd cc
 end_parts (Some front) None version rest p e = absurd cc
 end_parts (Some front) (Some row) version rest p e =
     let proof : RootedParts = proof_of front row in
-    let test = cond_ok (eqb (length rest) 0 && eqb version (version_in (name_of proof))) proof p (length rest) e in
-    let w = and_parts (eqb (length rest) 0) (eqb version (version_in (name_of proof))) test.0 in
+    let test = cond_ok (eqb (length rest) 0 && eqb version (name_version (name_of proof))) proof p (length rest) e in
+    let w = and_parts (eqb (length rest) 0) (eqb version (name_version (name_of proof))) test.0 in
     record {
       before = front;
       front_is = refl;
       rooted = row;
       row_is = refl;
       proof_is = test.1;
-      version_is = eqb-true version (version_in (name_of proof)) w.1;
+      version_is = eqb-true version (name_version (name_of proof)) w.1;
       none = nil_from_length rest (eqb-true (length rest) 0 w.0);
     }
 
@@ -406,26 +406,26 @@ record WasRead (bytes : List ℕ) (p : RootedParts) : Type 0 where
 was_read : (bytes : List ℕ) (p : RootedParts) → AreBytes bytes → share_proof_left bytes ≡ Ok p → WasRead bytes p
 was_read bytes p fits e =
     let a = then_ok share_proof_row (front_left bytes) p e in
-    let b = then_ok (share_proof_version a.0.0) (message_at (λ rest part. rooted_row_left (told_by a.0.0) part) 4 a.0.1) p a.2 in
-    let c = then_ok (share_proof_end (proof_by a.0.0 b.0.0)) (number_left (is_start (version_of (proof_by a.0.0 b.0.0))) 5 b.0.1) p b.2 in
+    let b = then_ok (share_proof_version a.0.0) (optional_message (λ rest part. rooted_row_left (told_by a.0.0) part) 4 a.0.1) p a.2 in
+    let c = then_ok (share_proof_end (proof_by a.0.0 b.0.0)) (number_left (is_place_stated (proved_version (proof_by a.0.0 b.0.0))) 5 b.0.1) p b.2 in
     let has = end_parts a.0.0 b.0.0 c.0.0 c.0.1 p c.2 in
     let front : Front = has.before in
     let row : RootedRow = has.rooted in
     let proof : RootedParts = proof_of front row in
     let told : Told = record { col = front.path.col; own = front.names.own; parity = front.names.parity } in
     let n1 = front_back bytes front a.0.1 fits (a.1 ∙ ap (λ (o : Option Front). Ok (o, a.0.1)) has.front_is) in
-    let second : message_at (λ rest part. rooted_row_left (Some told) part) 4 a.0.1 ≡ Ok (Some row, b.0.1) =
-    ap (λ (o : Option Front). message_at (λ rest part. rooted_row_left (told_by o) part) 4 a.0.1) (sym has.front_is)
+    let second : optional_message (λ rest part. rooted_row_left (Some told) part) 4 a.0.1 ≡ Ok (Some row, b.0.1) =
+    ap (λ (o : Option Front). optional_message (λ rest part. rooted_row_left (told_by o) part) 4 a.0.1) (sym has.front_is)
     ∙ b.1 ∙ ap (λ (o : Option RootedRow). Ok (o, b.0.1)) has.row_is in
     let m = message_back (λ rest part. rooted_row_left (Some told) part) 4 a.0.1 row b.0.1 (omega arith) n1.fits second in
     let n4 = rooted_row_back (Some told) m.part row m.part_fits m.read in
-    let n5 = number_left_back (is_start (version_of (proof_by a.0.0 b.0.0))) 5 b.0.1 c.0 (omega arith) m.fits c.1 in
+    let n5 = number_left_back (is_place_stated (proved_version (proof_by a.0.0 b.0.0))) 5 b.0.1 c.0 (omega arith) m.fits c.1 in
     let t = told_parts told row.path.k row.path.row n4.total n4.row_is in
     let id : n1.id ≡ id_in (name_of proof) =
     id_is (is_original row.path.k (cell_in row.path.row front.path.col)) front.share front.names n1.id n1.own n1.parity_is t.names in
-    let t5 : b.0.1 ≡ number_text 5 (version_in (name_of proof)) =
-    n5.parts ∙ ap₂ (λ (n : ℕ) (l : List ℕ). number_text 5 n ++ l) has.version_is has.none ∙ append-nil (number_text 5 (version_in (name_of proof))) in
-    let t4 : a.0.1 ≡ bytes_field 4 (rooted_row_text row.path.k row.path.row row.root row.path.up) ++ number_text 5 (version_in (name_of proof)) =
+    let t5 : b.0.1 ≡ number_text 5 (name_version (name_of proof)) =
+    n5.parts ∙ ap₂ (λ (n : ℕ) (l : List ℕ). number_text 5 n ++ l) has.version_is has.none ∙ append-nil (number_text 5 (name_version (name_of proof))) in
+    let t4 : a.0.1 ≡ bytes_field 4 (rooted_row_text row.path.k row.path.row row.root row.path.up) ++ number_text 5 (name_version (name_of proof)) =
     m.parts ∙ ap₂ (λ (l r : List ℕ). bytes_field 4 l ++ r) n4.parts t5 in
     let few : row.path.k ≤ 512 = is_width-le row.path.k t.width in
     let lt : row.path.row < 2 * row.path.k = ltb-true row.path.row (2 * row.path.k) t.row_is in

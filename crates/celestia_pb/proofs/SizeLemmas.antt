@@ -11,7 +11,7 @@ use Rattle.proto_fields.proofs.Varint.Bytes.{length-varint-low}
 use Rattle.proto_fields.proofs.WrittenLemmas.{size_is_length}
 use Rattle.proto_fields.proofs.CanonicalLemmas.{number_field-is, number_text-some}
 use Rattle.celestia_pb.specs.declared.sample.Sample.{Sample}
-use Rattle.celestia_pb.specs.Samples.{share_text, axis_number, place_on, sample_text}
+use Rattle.celestia_pb.specs.Samples.{share_message, axis_number, place_on, sample_text}
 use Rattle.celestia_pb.specs.Digests.{digests_text}
 use Rattle.celestia_pb.specs.Messages.{field_front}
 use Rattle.celestia_pb.specs.Inclusions.{inclusion_text}
@@ -44,8 +44,8 @@ length_inclusion start count nodes all =
     )
 
 -- a share as a message in its field
-length_share : (share : Share) → length share.0 ≡ 512 → length (bytes_field 1 (share_text share)) ≡ field_size 1 (field_size 1 512)
-length_share share size = size_is_length 1 (share_text share) ∙ ap (field_size 1) (size_is_length 1 share.0 ∙ ap (field_size 1) size)
+length_share : (share : Share) → length share.0 ≡ 512 → length (bytes_field 1 (share_message share)) ≡ field_size 1 (field_size 1 512)
+length_share share size = size_is_length 1 (share_message share) ∙ ap (field_size 1) (size_is_length 1 share.0 ∙ ap (field_size 1) size)
 
 -- the parts of a sample, as they are counted
 pub sample_sized : (cell : Cell) (s : Sample) (inner share place proof field number : ℕ) → length s.share.0 ≡ 512 → inner ≡ field_size 1 512 → share ≡ field_size 1 inner
@@ -54,7 +54,7 @@ pub sample_sized : (cell : Cell) (s : Sample) (inner share place proof field num
 sample_sized cell s inner share place proof field number size is_inner is_share is_place is_proof is_field is_number =
     let text : List ℕ = inclusion_text (place_on s.axis cell) 1 s.path in
     let behind : List ℕ = bytes_field 2 text ++ number_text 3 (axis_number s.axis) in
-    let first : share ≡ length (bytes_field 1 (share_text s.share)) = is_share ∙ ap (field_size 1) is_inner ∙ sym (length_share s.share size) in
+    let first : share ≡ length (bytes_field 1 (share_message s.share)) = is_share ∙ ap (field_size 1) is_inner ∙ sym (length_share s.share size) in
     let second : field ≡ length (bytes_field 2 text) =
     is_field ∙ ap (field_size 2) (is_proof ∙ ap (λ (p : ℕ). length (inclusion_text p 1 s.path)) is_place) ∙ sym (size_is_length 2 text) in
-    omega (arith, first, second, is_number, length-append (bytes_field 1 (share_text s.share)) behind, length-append (bytes_field 2 text) (number_text 3 (axis_number s.axis)))
+    omega (arith, first, second, is_number, length-append (bytes_field 1 (share_message s.share)) behind, length-append (bytes_field 2 text) (number_text 3 (axis_number s.axis)))

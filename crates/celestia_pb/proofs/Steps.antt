@@ -1,7 +1,7 @@
 -- Readings that came of several steps.
 use Rattle.std.proofs.Common.{◌≡◌, ℕ, Bool, true, false, cond, List, Option, Some, None, Result, Ok, Err, IsErr, IsErrAnd, refl, sym, ap, ◌∙◌}
 use Rattle.std.proofs.lemmas.Option.{same_Some}
-use Rattle.celestia_pb.specs.Reading.{then_read, placed, Reads}
+use Rattle.celestia_pb.specs.Reading.{then_read, with_offset, ReadsMessage}
 
 -- what was read, if it was
 abbrev was_read : {A : Type 0} → Result A ℕ → Option A
@@ -24,12 +24,12 @@ then_ok next (Ok x) y e = (x, refl, e)
 then_ok next (Err left) y e = absurd cc
 
 -- what was read doesn't depend on where what is wrong is
-pub placed_ok : {A : Type 0} (size : ℕ) (r : Result A ℕ) (y : A) → placed size r ≡ Ok y → r ≡ Ok y
+pub placed_ok : {A : Type 0} (size : ℕ) (r : Result A ℕ) (y : A) → with_offset size r ≡ Ok y → r ≡ Ok y
 placed_ok size (Ok x) y e = e
 placed_ok size (Err left) y e = absurd cc
 
 -- an error that was handed on is the one that was read
 pub err_reads : {X Y : Type 0} (view : X → Y) (result : Result X ℕ) (read : Result Y ℕ) (left : ℕ) → read ≡ Err left
-    → IsErr result × IsErrAnd result (λ e. e ≡ left) → Reads view result read
+    → IsErr result × IsErrAnd result (λ e. e ≡ left) → ReadsMessage view result read
 err_reads view (Ok x) read left e is = absurd is.1
 err_reads view (Err other) read left e is = e ∙ ap (λ (n : ℕ). Err n) (sym is.1)

@@ -15,10 +15,10 @@ use Rattle.celestia_pb.specs.declared.sample.Sample.{Sample}
 use Rattle.celestia_pb.specs.declared.befp_entries.Accused.{Accused}
 use Rattle.celestia_pb.specs.declared.befp_entries.Seen.{Seen}
 use Rattle.celestia_pb.specs.declared.befp.Outline.{Outline}
-use Rattle.celestia_pb.specs.Reading.{then_read, or_left, placed}
+use Rattle.celestia_pb.specs.Reading.{then_read, or_left, with_offset}
 use Rattle.celestia_pb.specs.Messages.{number_left}
 use Rattle.celestia_pb.specs.Samples.{axis_number}
-use Rattle.celestia_pb.specs.BefpEntries.{axis_in, places_text, places_of, places_at, none_seen, cells_of, cells_read}
+use Rattle.celestia_pb.specs.BefpEntries.{axis_field, places_text, places_of, places_at, none_seen, cells_of, cells_read}
 
 -- ---- written
 
@@ -29,8 +29,8 @@ has_no_set (Some nodes) = false
 
 -- whether a claim has a message: it has no set, and accuses an axis of a square of width k by exactly k cells of it, at ascending
 -- places of the square
-abbrev pub has_message : ℕ → ClaimParts → Bool
-has_message k claim =
+abbrev pub claim_has_message : ℕ → ClaimParts → Bool
+claim_has_message k claim =
     is_width k && (has_no_set claim.set && (has_shape k claim && list_all (λ m. nat_lt (position claim.axis m.cell) (2 * k)) claim.cells))
 
 -- the message of a claim of a square of width k, with this flag in each proof
@@ -53,7 +53,7 @@ accused_end index axis rest = if length rest == 0 then Ok (record { axis = axis;
 
 -- where the index was read
 abbrev pub accused_kind : ℕ → List ℕ → Result (Accused × List ℕ) ℕ
-accused_kind index bytes = then_read (accused_end index) (or_left bytes (axis_in 5 bytes))
+accused_kind index bytes = then_read (accused_end index) (or_left bytes (axis_field 5 bytes))
 
 -- the axis that the fields behind so many places accuse
 abbrev pub accused_left : ℕ → List ℕ → Result (Accused × List ℕ) ℕ
@@ -89,8 +89,8 @@ abbrev pub has_places : ℕ → ℕ → Bool
 has_places places shares = is_width (places / 2) && ((places == 2 * (places / 2)) && (shares == places / 2))
 
 -- the claim of these places
-abbrev pub claim_of : Accused → List (Option Sample) → ClaimParts
-claim_of accused places = record { axis = accused.axis; index = accused.index; cells = cells_of accused 0 places; set = None }
+abbrev pub claim_of_places : Accused → List (Option Sample) → ClaimParts
+claim_of_places accused places = record { axis = accused.axis; index = accused.index; cells = cells_of accused 0 places; set = None }
 
 -- the claim of places that were read
 abbrev pub claim_read : Accused → Result ((List (Option Sample) × Seen) × List ℕ) ℕ → ClaimParts
@@ -99,7 +99,7 @@ claim_read accused read = record { axis = accused.axis; index = accused.index; c
 -- where the axis was read
 abbrev pub befp_end : Bool → List (Option Sample) × Seen → Accused → List ℕ → Result ClaimParts ℕ
 befp_end told read accused rest =
-    if told && has_places read.1.place read.1.shares then Ok (claim_of accused read.0) else Err (length rest)
+    if told && has_places read.1.place read.1.shares then Ok (claim_of_places accused read.0) else Err (length rest)
 
 -- where the places were read
 abbrev pub befp_axis : Bool → List (Option Sample) × Seen → List ℕ → Result ClaimParts ℕ
@@ -122,18 +122,18 @@ abbrev pub befp_height : ℕ → Bool → List ℕ → Result ClaimParts ℕ
 befp_height height told bytes = then_read (befp_places height told) (number_left (is_height height) 2 bytes)
 
 -- this hash
-abbrev pub if_hash : List ℕ → List ℕ × List ℕ → Option (Bool × List ℕ)
-if_hash hash read = if bytes_eq read.0 hash then Some (true, read.1) else None
+abbrev pub if_this_hash : List ℕ → List ℕ × List ℕ → Option (Bool × List ℕ)
+if_this_hash hash read = if bytes_eq read.0 hash then Some (true, read.1) else None
 
 -- whether this hash is at the front, and what follows
-abbrev pub hash_at : List ℕ → List ℕ → Result (Bool × List ℕ) ℕ
-hash_at hash bytes =
-    if begins_part 1 bytes then or_left bytes (option_and_then (if_hash hash) (canonical_part 1 bytes)) else Ok (false, bytes)
+abbrev pub hash_matches : List ℕ → List ℕ → Result (Bool × List ℕ) ℕ
+hash_matches hash bytes =
+    if begins_part 1 bytes then or_left bytes (option_and_then (if_this_hash hash) (canonical_part 1 bytes)) else Ok (false, bytes)
 
 -- the claim that a message of this hash and this height is, or how many bytes are left from the first field that is wrong on
 abbrev pub befp_left : List ℕ → ℕ → List ℕ → Result ClaimParts ℕ
-befp_left hash height bytes = then_read (befp_height height) (hash_at hash bytes)
+befp_left hash height bytes = then_read (befp_height height) (hash_matches hash bytes)
 
 -- the claim that a message is, or the offset of the first field that is wrong
 abbrev pub befp_value : List ℕ → ℕ → List ℕ → Result ClaimParts ℕ
-befp_value hash height bytes = placed (length bytes) (befp_left hash height bytes)
+befp_value hash height bytes = with_offset (length bytes) (befp_left hash height bytes)

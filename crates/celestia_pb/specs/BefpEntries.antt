@@ -16,9 +16,9 @@ use Rattle.celestia_pb.specs.declared.befp_entries.Accused.{Accused}
 use Rattle.celestia_pb.specs.declared.befp_entries.Seen.{Seen}
 use Rattle.celestia_pb.specs.Reading.{then_read, or_left}
 use Rattle.celestia_pb.specs.Digests.{digests_text, digests_at}
-use Rattle.celestia_pb.specs.Messages.{number_left, before_rest, message_at}
-use Rattle.celestia_pb.specs.Inclusions.{is_start, first_place, is_stop}
-use Rattle.celestia_pb.specs.Samples.{axis_number, share_at, axis_of, place_wanted}
+use Rattle.celestia_pb.specs.Messages.{number_left, before_rest, optional_message}
+use Rattle.celestia_pb.specs.Inclusions.{is_place_stated, place_stated, is_stop}
+use Rattle.celestia_pb.specs.Samples.{axis_number, share_front, axis_of_number, place_wanted}
 
 -- ---- written
 
@@ -27,19 +27,19 @@ abbrev pub proof_text : ℕ → ℕ → List Digest → List ℕ
 proof_text flag start nodes = number_text 1 start ++ (number_text 2 (start + 1) ++ (digests_text 3 nodes ++ number_text 5 flag))
 
 -- the message of a share with its proof
-abbrev pub entry_text : ℕ → Message → List ℕ
-entry_text flag m =
+abbrev pub befp_entry : ℕ → Message → List ℕ
+befp_entry flag m =
     bytes_field 1 m.share.0
     ++ (bytes_field 2 (proof_text flag (position m.axis m.cell) m.path) ++ number_text 3 (axis_number m.axis))
 
 -- the bytes of a place: none where it has no share
-abbrev pub place_text : ℕ → Option Message → List ℕ
-place_text flag None = []
-place_text flag (Some m) = entry_text flag m
+abbrev pub befp_place : ℕ → Option Message → List ℕ
+befp_place flag None = []
+befp_place flag (Some m) = befp_entry flag m
 
 -- the fields of places
 abbrev pub places_text : ℕ → List (Option Message) → List ℕ
-places_text flag places = flat_map (λ (place : Option Message). bytes_field 3 (place_text flag place)) places
+places_text flag places = flat_map (λ (place : Option Message). bytes_field 3 (befp_place flag place)) places
 
 -- the sample at a place of an axis: the first of these, if its cell is there
 abbrev pub shown_at : Axis → ℕ → List Message → Option Message
@@ -70,7 +70,7 @@ is_proof place mark start stop flag left = (left == 0) && ((start == place) && (
 -- where the flag was read
 abbrev pub proof_end : Option ℕ → Option ℕ → ℕ → ℕ → List Digest → ℕ → List ℕ → Result (List Digest × ℕ) ℕ
 proof_end wanted mark start stop nodes flag rest =
-    if is_proof (first_place wanted start) (first_place mark flag) start stop flag (length rest) then Ok (nodes, flag) else Err (length rest)
+    if is_proof (place_stated wanted start) (place_stated mark flag) start stop flag (length rest) then Ok (nodes, flag) else Err (length rest)
 
 -- where the nodes were read
 abbrev pub proof_flag : Option ℕ → Option ℕ → ℕ → ℕ → List Digest → List ℕ → Result (List Digest × ℕ) ℕ
@@ -83,21 +83,21 @@ proof_nodes wanted mark start stop bytes = then_read (proof_flag wanted mark sta
 -- where the place of the leaf was read
 abbrev pub proof_stop : Option ℕ → Option ℕ → ℕ → List ℕ → Result (List Digest × ℕ) ℕ
 proof_stop wanted mark start bytes =
-    then_read (proof_nodes wanted mark start) (number_left (is_stop (first_place wanted start) 1) 2 bytes)
+    then_read (proof_nodes wanted mark start) (number_left (is_stop (place_stated wanted start) 1) 2 bytes)
 
 -- the nodes and the flag of a proof of one leaf, of the one that is wanted and with the flag before it, if these are known
 abbrev pub proof_left : Option ℕ → Option ℕ → List ℕ → Result (List Digest × ℕ) ℕ
-proof_left wanted mark bytes = then_read (proof_stop wanted mark) (number_left (is_start wanted) 1 bytes)
+proof_left wanted mark bytes = then_read (proof_stop wanted mark) (number_left (is_place_stated wanted) 1 bytes)
 
 -- ---- a share with its proof, read
 
 -- the axis that the number of a field is, and what follows
-abbrev pub axis_in : ℕ → List ℕ → Option (Axis × List ℕ)
-axis_in n bytes = option_and_then axis_of (canonical_number n bytes)
+abbrev pub axis_field : ℕ → List ℕ → Option (Axis × List ℕ)
+axis_field n bytes = option_and_then axis_of_number (canonical_number n bytes)
 
 -- the place that a proof has to show, where its cell and its axis, which follows, are known
 abbrev pub start_wanted : Option Cell → List ℕ → Option ℕ
-start_wanted cell rest = option_and_then (λ (c : Cell). place_wanted c (axis_in 3 rest)) cell
+start_wanted cell rest = option_and_then (λ (c : Cell). place_wanted c (axis_field 3 rest)) cell
 
 -- a share that was read
 abbrev pub some_share : Result (Share × List ℕ) ℕ → Result (Option Share × List ℕ) ℕ
@@ -106,23 +106,23 @@ some_share (Err left) = Err left
 
 -- the share at the front, if one is there, and what follows
 abbrev pub data_at : List ℕ → Result (Option Share × List ℕ) ℕ
-data_at bytes = if begins_part 1 bytes then some_share (or_left bytes (share_at bytes)) else Ok (None, bytes)
+data_at bytes = if begins_part 1 bytes then some_share (or_left bytes (share_front bytes)) else Ok (None, bytes)
 
 -- the sample of these and the flag of its proof, where both are there and nothing follows
-abbrev pub entry_of : Option Share → Option (List Digest × ℕ) → Axis → List ℕ → Result (Sample × ℕ) ℕ
-entry_of None proof axis rest = Err (length rest)
-entry_of (Some share) None axis rest = Err (length rest)
-entry_of (Some share) (Some proof) axis rest =
+abbrev pub befp_sample : Option Share → Option (List Digest × ℕ) → Axis → List ℕ → Result (Sample × ℕ) ℕ
+befp_sample None proof axis rest = Err (length rest)
+befp_sample (Some share) None axis rest = Err (length rest)
+befp_sample (Some share) (Some proof) axis rest =
     if length rest == 0 then Ok (record { axis = axis; share = share; path = proof.0 }, proof.1) else Err (length rest)
 
 -- where the proof was read
 abbrev pub entry_axis : Option Share → Option (List Digest × ℕ) → List ℕ → Result (Sample × ℕ) ℕ
-entry_axis share proof bytes = then_read (entry_of share proof) (or_left bytes (axis_in 3 bytes))
+entry_axis share proof bytes = then_read (befp_sample share proof) (or_left bytes (axis_field 3 bytes))
 
 -- where the share was read
 abbrev pub entry_proof : Option Cell → Option ℕ → Option Share → List ℕ → Result (Sample × ℕ) ℕ
 entry_proof cell mark share bytes =
-    then_read (entry_axis share) (message_at (λ rest part. proof_left (start_wanted cell rest) mark part) 2 bytes)
+    then_read (entry_axis share) (optional_message (λ rest part. proof_left (start_wanted cell rest) mark part) 2 bytes)
 
 -- the sample that a message is, and the flag of its proof
 abbrev pub entry_left : Option Cell → Option ℕ → List ℕ → Result (Sample × ℕ) ℕ
@@ -131,17 +131,17 @@ entry_left cell mark bytes = then_read (entry_proof cell mark) (data_at bytes)
 -- ---- places, read
 
 -- the cell at a place of the accused axis, where this is known
-abbrev pub cell_of : Option Accused → ℕ → Option Cell
-cell_of accused place = option_map (λ (a : Accused). cell_on a.axis a.index place) accused
+abbrev pub accused_cell : Option Accused → ℕ → Option Cell
+accused_cell accused place = option_map (λ (a : Accused). cell_on a.axis a.index place) accused
 
 -- one place more, and one share more if one is there
-abbrev pub passed : Seen → Option (Sample × ℕ) → Seen
-passed seen None = record { place = suc seen.place; shares = seen.shares; mark = seen.mark }
-passed seen (Some entry) = record { place = suc seen.place; shares = suc seen.shares; mark = Some entry.1 }
+abbrev pub seen_place : Seen → Option (Sample × ℕ) → Seen
+seen_place seen None = record { place = suc seen.place; shares = seen.shares; mark = seen.mark }
+seen_place seen (Some entry) = record { place = suc seen.place; shares = suc seen.shares; mark = Some entry.1 }
 
 -- the sample of a place, if it has one, and what was seen with it
 abbrev pub step_of : Seen → Option (Sample × ℕ) → List ℕ → Result ((Option Sample × Seen) × List ℕ) ℕ
-step_of seen entry rest = Ok ((option_map (λ (e : Sample × ℕ). e.0) entry, passed seen entry), rest)
+step_of seen entry rest = Ok ((option_map (λ (e : Sample × ℕ). e.0) entry, seen_place seen entry), rest)
 
 -- what the bytes of a place are: nothing, or one more of at most so many shares
 abbrev pub part_left : Option Accused → ℕ → Seen → List ℕ → List ℕ → List ℕ → Result (Option (Sample × ℕ) × List ℕ) ℕ
@@ -149,7 +149,7 @@ part_left accused most seen bytes part rest =
     if length part == 0
     then Ok (None, rest)
     else (if nat_lt seen.shares most
-    then before_rest rest (entry_left (cell_of accused seen.place) seen.mark part)
+    then before_rest rest (entry_left (accused_cell accused seen.place) seen.mark part)
     else Err (length bytes))
 
 -- the place at the front

@@ -10,17 +10,17 @@ use Rattle.axis_roots.specs.Messages.{IsMessage, position}
 use Rattle.axis_roots.specs.Claims.{ClaimParts, IsClaim}
 use Rattle.celestia_pb.specs.Laws.{bytes_of_all}
 use Rattle.celestia_pb.specs.Samples.{axis_number}
-use Rattle.celestia_pb.specs.BefpEntries.{proof_text, entry_text, place_text, places_of}
-use Rattle.celestia_pb.specs.Befp.{has_message, befp_text, befp_value}
+use Rattle.celestia_pb.specs.BefpEntries.{proof_text, befp_entry, befp_place, places_of}
+use Rattle.celestia_pb.specs.Befp.{claim_has_message, befp_text, befp_value}
 
 -- a claim is made of shares and digests, and has a message
-pub record HasMessage (k : ℕ) (claim : ClaimParts) : Type 0 where
+pub record ClaimHasMessage (k : ℕ) (claim : ClaimParts) : Type 0 where
   pub is : IsClaim claim
-  pub has : has_message k claim ≡ true
+  pub has : claim_has_message k claim ≡ true
 
 -- the message of a claim is read as the claim, with the flag and without it
 abbrev pub BefpIsRead : Type 0
-BefpIsRead = (flag k : ℕ) (hash : List ℕ) (height : ℕ) (claim : ClaimParts) → flag ≤ 1 → length hash ≡ hash_size → height < 2 ^ 64 → HasMessage k claim
+BefpIsRead = (flag k : ℕ) (hash : List ℕ) (height : ℕ) (claim : ClaimParts) → flag ≤ 1 → length hash ≡ hash_size → height < 2 ^ 64 → ClaimHasMessage k claim
     → befp_value hash height (befp_text flag k hash height claim) ≡ Ok claim
 
 -- bytes are the message of a claim, of this hash and this height
@@ -28,7 +28,7 @@ pub record IsBefp (hash : List ℕ) (height : ℕ) (bytes : List ℕ) (claim : C
   pub flag : ℕ
   pub k : ℕ
   pub marked : flag ≤ 1
-  pub has : HasMessage k claim
+  pub has : ClaimHasMessage k claim
   pub text : bytes ≡ befp_text flag k hash height claim
 
 -- what is read as a claim has a message, which the bytes are
@@ -41,13 +41,13 @@ abbrev pub BefpIsCommon : Type 0
 BefpIsCommon = (hash : List ℕ) (height : ℕ) (bytes : List ℕ) (claim : ClaimParts) → AreBytes bytes → befp_value hash height bytes ≡ Ok claim
     → (is : IsBefp hash height bytes claim) × (fields : List FieldParts) × (fields_of bytes ≡ Some fields)
     × (all_bytes 1 fields ≡ hash ∷ []) × (last_number 2 fields ≡ height)
-    × (all_bytes 3 fields ≡ map (place_text is.flag) (places_of claim.axis (2 * is.k) 0 claim.cells))
+    × (all_bytes 3 fields ≡ map (befp_place is.flag) (places_of claim.axis (2 * is.k) 0 claim.cells))
     × (last_number 4 fields ≡ claim.index) × (last_number 5 fields ≡ axis_number claim.axis)
 
 -- of a place with a share it has the share, one proof, and the number of the axis that this is along
 abbrev pub EntryIsCommon : Type 0
 EntryIsCommon = (flag : ℕ) (m : Message) → IsMessage m
-    → (fields : List FieldParts) × (fields_of (entry_text flag m) ≡ Some fields)
+    → (fields : List FieldParts) × (fields_of (befp_entry flag m) ≡ Some fields)
     × (all_bytes 1 fields ≡ m.share.0 ∷ []) × (all_bytes 2 fields ≡ proof_text flag (position m.axis m.cell) m.path ∷ [])
     × (last_number 3 fields ≡ axis_number m.axis)
 

@@ -20,8 +20,8 @@ abbrev pub if_digest : List ℕ × List ℕ → Option (Digest × List ℕ)
 if_digest read = if length read.0 == digest_size then Some (record { 0 = read.0 }, read.1) else None
 
 -- the digest in a field of this number, and what follows
-abbrev pub digest_at : ℕ → List ℕ → Option (Digest × List ℕ)
-digest_at n bytes = option_and_then if_digest (canonical_part n bytes)
+abbrev pub digest_field : ℕ → List ℕ → Option (Digest × List ℕ)
+digest_field n bytes = option_and_then if_digest (canonical_part n bytes)
 
 -- a digest before others
 abbrev pub with_digest : Digest → Result (List Digest × List ℕ) ℕ → Result (List Digest × List ℕ) ℕ
@@ -38,7 +38,7 @@ unfoldable pub digests_at : ℕ → ℕ → List ℕ → Result (List Digest × 
 digests_at n zero bytes = Ok ([], bytes)
 digests_at n (suc most) bytes =
     if begins_part n bytes
-    then before_digests (digests_at n most) (or_left bytes (digest_at n bytes))
+    then before_digests (digests_at n most) (or_left bytes (digest_field n bytes))
     else Ok ([], bytes)
 
 -- ---- where they lie

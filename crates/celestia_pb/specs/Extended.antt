@@ -6,7 +6,7 @@ use Rattle.data_header.specs.Headers.{Roots}
 use Rattle.proto_fields.specs.Fields.{ValueParts, number_value, bytes_value, other_value, FieldParts, field_at}
 use Rattle.celestia_pb.specs.declared.extended.Extended.{Extended}
 use Rattle.celestia_pb.specs.declared.extended.Parts.{Parts}
-use Rattle.celestia_pb.specs.Reading.{then_read, or_left, placed}
+use Rattle.celestia_pb.specs.Reading.{then_read, or_left, with_offset}
 use Rattle.celestia_pb.specs.Digests.{entry_size, digests_in}
 use Rattle.celestia_pb.specs.Headers.{dah_left}
 
@@ -46,20 +46,20 @@ unless value (Ok right) = Ok value
 unless value (Err left) = Err left
 
 -- what `read` reads in the first field of a number, behind which there may be no other one
-abbrev pub the_one : {A : Type 0} → (List ℕ → Result (A × List ℕ) ℕ) → ℕ → List ℕ → Result A ℕ
-the_one read n bytes = then_from (λ from. then_read (λ value rest. unless value (none_of n rest)) (read from)) (from_field n bytes)
+abbrev pub one_field : {A : Type 0} → (List ℕ → Result (A × List ℕ) ℕ) → ℕ → List ℕ → Result A ℕ
+one_field read n bytes = then_from (λ from. then_read (λ value rest. unless value (none_of n rest)) (read from)) (from_field n bytes)
 
 -- ---- fields of bytes, in whatever spelling
 
 -- the bytes that a value is, with what follows it
-abbrev pub bytes_before : ValueParts → List ℕ → Option (List ℕ × List ℕ)
-bytes_before (number_value number) rest = None
-bytes_before (bytes_value part) rest = Some (part, rest)
-bytes_before other_value rest = None
+abbrev pub bytes_of_value : ValueParts → List ℕ → Option (List ℕ × List ℕ)
+bytes_of_value (number_value number) rest = None
+bytes_of_value (bytes_value part) rest = Some (part, rest)
+bytes_of_value other_value rest = None
 
 -- the bytes that the field at the front is, whatever its number, and what follows
 abbrev pub lenient_part : List ℕ → Option (List ℕ × List ℕ)
-lenient_part bytes = option_and_then (λ read. bytes_before read.0.value read.1) (field_at bytes)
+lenient_part bytes = option_and_then (λ read. bytes_of_value read.0.value read.1) (field_at bytes)
 
 -- what a message says that others follow; where a field in it is wrong, these are left besides
 abbrev pub with_rest : {A : Type 0} → List ℕ → Result A ℕ → Result (A × List ℕ) ℕ
@@ -67,8 +67,8 @@ with_rest rest (Ok value) = Ok (value, rest)
 with_rest rest (Err left) = Err (left + length rest)
 
 -- what the message in the field at the front says, and what follows
-abbrev pub message_in : {A : Type 0} → (List ℕ → Result A ℕ) → List ℕ → Result (A × List ℕ) ℕ
-message_in said bytes = then_read (λ part rest. with_rest rest (said part)) (or_left bytes (lenient_part bytes))
+abbrev pub submessage : {A : Type 0} → (List ℕ → Result A ℕ) → List ℕ → Result (A × List ℕ) ℕ
+submessage said bytes = then_read (λ part rest. with_rest rest (said part)) (or_left bytes (lenient_part bytes))
 
 -- ---- the parts
 
@@ -81,20 +81,20 @@ abbrev pub if_hash : List ℕ × List ℕ → Option (List ℕ × List ℕ)
 if_hash read = if length read.0 == hash_size then Some read else None
 
 -- the data hash at the front, and what follows
-abbrev pub hash_at : List ℕ → Option (List ℕ × List ℕ)
-hash_at bytes = option_and_then if_hash (lenient_part bytes)
+abbrev pub hash_front : List ℕ → Option (List ℕ × List ℕ)
+hash_front bytes = option_and_then if_hash (lenient_part bytes)
 
 -- the data hash of the header of a block
 abbrev pub data_hash_left : List ℕ → Result (List ℕ) ℕ
-data_hash_left header = the_one (λ from. or_left from (hash_at from)) 7 header
+data_hash_left header = one_field (λ from. or_left from (hash_front from)) 7 header
 
 -- the data hash in the header
 abbrev pub header_left : List ℕ → Result (List ℕ) ℕ
-header_left bytes = the_one (message_in data_hash_left) 1 bytes
+header_left bytes = one_field (submessage data_hash_left) 1 bytes
 
 -- the axis roots
 abbrev pub roots_left : List ℕ → Result Roots ℕ
-roots_left bytes = the_one (message_in dah_left) 4 bytes
+roots_left bytes = one_field (submessage dah_left) 4 bytes
 
 -- a field of bytes of a number is there once at most
 abbrev pub once_at_most : ℕ → List ℕ → Result ⊤ ℕ
@@ -126,7 +126,7 @@ extended_left bytes =
 
 -- what is taken of a message, or the offset of the first field that is wrong
 abbrev pub extended_value : List ℕ → Result Extended ℕ
-extended_value bytes = placed (length bytes) (extended_left bytes)
+extended_value bytes = with_offset (length bytes) (extended_left bytes)
 
 -- ---- where the parts lie
 
@@ -135,5 +135,5 @@ abbrev pub roots_by : ℕ → List ℕ → Roots
 roots_by k bytes = record { k = k; rows = digests_in (2 * k) bytes; cols = digests_in (2 * k) (drop (entry_size * (2 * k)) bytes) }
 
 -- what is taken of a message that has these parts
-abbrev pub extended_by : Parts → Extended
-extended_by parts = record { data_hash = parts.data_hash.now; roots = roots_by parts.k parts.roots.now }
+abbrev pub extended_from : Parts → Extended
+extended_from parts = record { data_hash = parts.data_hash.now; roots = roots_by parts.k parts.roots.now }

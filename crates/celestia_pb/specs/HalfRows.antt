@@ -10,8 +10,8 @@ use Rattle.proto_fields.specs.Canonical.{number_text, canonical_number}
 use Rattle.proto_fields.specs.Fields.{FieldParts, fields_of, all_bytes, last_number}
 use Rattle.celestia_pb.specs.declared.half_row.Side.{Side}
 use Rattle.celestia_pb.specs.declared.half_row.Side.TheVariants.{Left, Right}
-use Rattle.celestia_pb.specs.Reading.{then_read, or_left, placed}
-use Rattle.celestia_pb.specs.Samples.{share_text}
+use Rattle.celestia_pb.specs.Reading.{then_read, or_left, with_offset}
+use Rattle.celestia_pb.specs.Samples.{share_message}
 use Rattle.celestia_pb.specs.RowShares.{shares_text, shares_at}
 
 -- half a row: which one, and its shares
@@ -59,7 +59,7 @@ half_row_left bytes = then_read half_row_side (shares_at greatest_width bytes)
 
 -- the half of a row that a message is, or the offset of the first field that is wrong
 abbrev pub half_row_value : List ℕ → Result HalfParts ℕ
-half_row_value bytes = placed (length bytes) (half_row_left bytes)
+half_row_value bytes = with_offset (length bytes) (half_row_left bytes)
 
 -- ---- what is promised of all of them
 
@@ -76,4 +76,4 @@ ReadIsHalfRow = (bytes : List ℕ) (half : HalfParts) → AreBytes bytes → hal
 abbrev pub HalfRowIsCommon : Type 0
 HalfRowIsCommon = (bytes : List ℕ) (half : HalfParts) → AreBytes bytes → half_row_value bytes ≡ Ok half
     → (fields : List FieldParts) × (fields_of bytes ≡ Some fields)
-    × (all_bytes 1 fields ≡ map share_text half.shares) × (last_number 2 fields ≡ side_number half.side)
+    × (all_bytes 1 fields ≡ map share_message half.shares) × (last_number 2 fields ≡ side_number half.side)

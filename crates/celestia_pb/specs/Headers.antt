@@ -4,7 +4,7 @@ use Rattle.namespace_id.specs.declared.digests.Digest.{Digest}
 use Rattle.namespace_id.specs.Cells.{is_width}
 use Rattle.namespace_id.specs.Sizes.{greatest_width}
 use Rattle.data_header.specs.Headers.{Roots}
-use Rattle.celestia_pb.specs.Reading.{then_read, placed}
+use Rattle.celestia_pb.specs.Reading.{then_read, with_offset}
 use Rattle.celestia_pb.specs.Digests.{digests_text, digests_at}
 
 -- the message of a header
@@ -32,4 +32,4 @@ dah_left bytes = then_read dah_cols (digests_at 1 (2 * greatest_width) bytes)
 
 -- the header that a message is, or the offset of the first field that is wrong
 abbrev pub dah_value : List ℕ → Result Roots ℕ
-dah_value bytes = placed (length bytes) (dah_left bytes)
+dah_value bytes = with_offset (length bytes) (dah_left bytes)

@@ -7,7 +7,7 @@ use Rattle.namespace_id.specs.declared.namespaces.Namespace.{Namespace}
 use Rattle.namespace_id.specs.Bytes.{AreBytes}
 use Rattle.namespace_id.specs.Names.{IsNamespace}
 use Rattle.namespace_id.specs.Sizes.{namespace_size}
-use Rattle.celestia_pb.specs.Reading.{then_read, or_left, placed}
+use Rattle.celestia_pb.specs.Reading.{then_read, or_left, with_offset}
 use Rattle.celestia_pb.specs.Samples.{IsCell}
 
 -- ---- written
@@ -32,8 +32,8 @@ abbrev pub short_at : List ℕ → Option (ℕ × List ℕ)
 short_at bytes = if nat_le 2 (length bytes) then Some (from_be_bytes w16 (take 2 bytes), drop 2 bytes) else None
 
 -- a namespace, and what follows
-abbrev pub name_at : List ℕ → Option (Namespace × List ℕ)
-name_at bytes =
+abbrev pub name_front : List ℕ → Option (Namespace × List ℕ)
+name_front bytes =
     if nat_le namespace_size (length bytes) then Some (record { 0 = take namespace_size bytes }, drop namespace_size bytes) else None
 
 -- what was read, where nothing follows it
@@ -59,7 +59,7 @@ id_row bytes = then_read id_col (or_left bytes (short_at bytes))
 
 -- the namespace that follows
 abbrev pub id_name : List ℕ → Result Namespace ℕ
-id_name bytes = then_read id_end (or_left bytes (name_at bytes))
+id_name bytes = then_read id_end (or_left bytes (name_front bytes))
 
 -- the cell that a SampleID of this height names, or how many bytes are left from the number that is wrong on
 abbrev pub sample_id_left : ℕ → List ℕ → Result Cell ℕ
@@ -71,10 +71,10 @@ namespace_id_left height bytes = after_height id_name bytes (behind_height heigh
 
 -- the same, with the offset of the number that is wrong
 abbrev pub sample_id_value : ℕ → List ℕ → Result Cell ℕ
-sample_id_value height bytes = placed (length bytes) (sample_id_left height bytes)
+sample_id_value height bytes = with_offset (length bytes) (sample_id_left height bytes)
 
 abbrev pub namespace_id_value : ℕ → List ℕ → Result Namespace ℕ
-namespace_id_value height bytes = placed (length bytes) (namespace_id_left height bytes)
+namespace_id_value height bytes = with_offset (length bytes) (namespace_id_left height bytes)
 
 -- ---- what is promised of all
 

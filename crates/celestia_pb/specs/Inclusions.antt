@@ -14,14 +14,14 @@ inclusion_text start count nodes = number_text 1 start ++ (number_text 2 (start 
 -- ---- which numbers may be there
 
 -- a first place: any, or the one that is wanted
-abbrev pub is_start : Option ℕ → ℕ → Bool
-is_start None start = true
-is_start (Some place) start = (start == 0) || (start == place)
+abbrev pub is_place_stated : Option ℕ → ℕ → Bool
+is_place_stated None start = true
+is_place_stated (Some place) start = (start == 0) || (start == place)
 
 -- the place that is the first one
-abbrev pub first_place : Option ℕ → ℕ → ℕ
-first_place None start = start
-first_place (Some place) start = place
+abbrev pub place_stated : Option ℕ → ℕ → ℕ
+place_stated None start = start
+place_stated (Some place) start = place
 
 -- the one behind the last
 abbrev pub is_stop : ℕ → ℕ → ℕ → Bool
@@ -40,7 +40,7 @@ is_whole place count start stop flag left = (left == 0) && ((start == place) && 
 -- where the flag was read
 abbrev pub inclusion_end : Option ℕ → ℕ → ℕ → ℕ → List Digest → ℕ → List ℕ → Result (ℕ × List Digest) ℕ
 inclusion_end wanted count start stop nodes flag rest =
-    if is_whole (first_place wanted start) count start stop flag (length rest) then Ok (start, nodes) else Err (length rest)
+    if is_whole (place_stated wanted start) count start stop flag (length rest) then Ok (start, nodes) else Err (length rest)
 
 -- where the nodes were read
 abbrev pub inclusion_flag : Option ℕ → ℕ → ℕ → ℕ → List Digest → List ℕ → Result (ℕ × List Digest) ℕ
@@ -53,8 +53,8 @@ inclusion_nodes wanted count most start stop bytes = then_read (inclusion_flag w
 -- where the first place was read
 abbrev pub inclusion_stop : Option ℕ → ℕ → ℕ → ℕ → List ℕ → Result (ℕ × List Digest) ℕ
 inclusion_stop wanted count most start bytes =
-    then_read (inclusion_nodes wanted count most start) (number_left (is_stop (first_place wanted start) count) 2 bytes)
+    then_read (inclusion_nodes wanted count most start) (number_left (is_stop (place_stated wanted start) count) 2 bytes)
 
 -- the first place and the nodes of a proof of so many leaves, with at most so many nodes
 abbrev pub inclusion_left : Option ℕ → ℕ → ℕ → List ℕ → Result (ℕ × List Digest) ℕ
-inclusion_left wanted count most bytes = then_read (inclusion_stop wanted count most) (number_left (is_start wanted) 1 bytes)
+inclusion_left wanted count most bytes = then_read (inclusion_stop wanted count most) (number_left (is_place_stated wanted) 1 bytes)

@@ -28,8 +28,8 @@ inside one (Ok read) = before_rest read.1 (one read.1 read.0)
 inside one (Err left) = Err left
 
 -- the message in a field of this number, none where the field isn't there, and what follows
-abbrev pub message_at : {A : Type 0} → (List ℕ → List ℕ → Result A ℕ) → ℕ → List ℕ → Result (Option A × List ℕ) ℕ
-message_at one n bytes = if begins_part n bytes then inside one (or_left bytes (canonical_part n bytes)) else Ok (None, bytes)
+abbrev pub optional_message : {A : Type 0} → (List ℕ → List ℕ → Result A ℕ) → ℕ → List ℕ → Result (Option A × List ℕ) ℕ
+optional_message one n bytes = if begins_part n bytes then inside one (or_left bytes (canonical_part n bytes)) else Ok (None, bytes)
 
 -- the tag and the length of a field of so many bytes
 abbrev pub field_front : ℕ → ℕ → List ℕ

@@ -7,23 +7,23 @@ use Rattle.namespace_id.specs.Sizes.{greatest_width}
 use Rattle.proto_fields.specs.Spelled.{text}
 use Rattle.proto_fields.specs.Canonical.{part_at}
 use Rattle.axis_roots.specs.declared.answers.NsEntry.{NsEntry}
-use Rattle.celestia_pb.specs.Reading.{then_read, or_left, placed}
-use Rattle.celestia_pb.specs.RowData.{has_message, found_text, row_left}
-use Rattle.celestia_pb.specs.RowDataLaws.{HasMessage}
+use Rattle.celestia_pb.specs.Reading.{then_read, or_left, with_offset}
+use Rattle.celestia_pb.specs.RowData.{found_has_message, found_message, row_left}
+use Rattle.celestia_pb.specs.RowDataLaws.{FoundHasMessage}
 
 -- ---- written
 
 -- the message of an entry behind its length
-abbrev pub entry_text : NsEntry → List ℕ
-entry_text entry = text (found_text entry.found)
+abbrev pub ns_entry_text : NsEntry → List ℕ
+ns_entry_text entry = text (found_message entry.found)
 
 -- the messages of entries, one after another
 abbrev pub namespace_data_text : List NsEntry → List ℕ
-namespace_data_text answer = flat_map entry_text answer
+namespace_data_text answer = flat_map ns_entry_text answer
 
 -- whether an entry has a message
 abbrev pub has_part : NsEntry → Bool
-has_part entry = has_message entry.found
+has_part entry = found_has_message entry.found
 
 -- whether entries have a stream: at most as many as the widest square has rows, and each has a message
 abbrev pub has_stream : List NsEntry → Bool
@@ -52,7 +52,7 @@ entries_left (row ∷ rows) bytes = then_read (λ entry rest. with_entry entry (
 
 -- the entries of these rows that a stream is, or the offset of the first field that is wrong
 abbrev pub namespace_data_value : List ℕ → List ℕ → Result (List NsEntry) ℕ
-namespace_data_value rows bytes = placed (length bytes) (entries_left rows bytes)
+namespace_data_value rows bytes = with_offset (length bytes) (entries_left rows bytes)
 
 -- ---- what is promised of all of them
 
@@ -62,7 +62,7 @@ rows_of answer = map (λ (entry : NsEntry). entry.row) answer
 
 -- each of these is made of shares, digests and a place, and has a message
 abbrev pub HaveMessages : List NsEntry → Type 0
-HaveMessages answer = AllByRecursion (λ (entry : NsEntry). HasMessage entry.found) answer
+HaveMessages answer = AllByRecursion (λ (entry : NsEntry). FoundHasMessage entry.found) answer
 
 -- the stream of entries is read as these, under their rows
 abbrev pub NamespaceDataIsRead : Type 0

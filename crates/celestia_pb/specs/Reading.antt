@@ -13,11 +13,11 @@ or_left bytes None = Err (length bytes)
 or_left bytes (Some read) = Ok read
 
 -- the same, with the offset of the field that is wrong, in a message of so many bytes
-abbrev pub placed : {A : Type 0} → ℕ → Result A ℕ → Result A ℕ
-placed size (Ok value) = Ok value
-placed size (Err left) = Err (size - left)
+abbrev pub with_offset : {A : Type 0} → ℕ → Result A ℕ → Result A ℕ
+with_offset size (Ok value) = Ok value
+with_offset size (Err left) = Err (size - left)
 
 -- what a reader answered, seen by `view`, is what reading gives
-abbrev pub Reads : {X Y : Type 0} → (X → Y) → Result X ℕ → Result Y ℕ → Type 0
-Reads view (Ok x) read = read ≡ Ok (view x)
-Reads view (Err left) read = read ≡ Err left
+abbrev pub ReadsMessage : {X Y : Type 0} → (X → Y) → Result X ℕ → Result Y ℕ → Type 0
+ReadsMessage view (Ok x) read = read ≡ Ok (view x)
+ReadsMessage view (Err left) read = read ≡ Err left

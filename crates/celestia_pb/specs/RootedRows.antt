@@ -14,9 +14,9 @@ use Rattle.celestia_pb.specs.declared.rooted_row.Told.{Told}
 use Rattle.celestia_pb.specs.declared.rooted_row.RowPath.{RowPath}
 use Rattle.celestia_pb.specs.declared.rooted_row.RootedRow.{RootedRow}
 use Rattle.celestia_pb.specs.Reading.{then_read}
-use Rattle.celestia_pb.specs.Digests.{digest_at}
-use Rattle.celestia_pb.specs.Messages.{number_left, message_at}
-use Rattle.celestia_pb.specs.Inclusions.{is_start}
+use Rattle.celestia_pb.specs.Digests.{digest_field}
+use Rattle.celestia_pb.specs.Messages.{number_left, optional_message}
+use Rattle.celestia_pb.specs.Inclusions.{is_place_stated}
 use Rattle.celestia_pb.specs.Aunts.{optional_at, aunts_at}
 
 -- ---- written
@@ -111,16 +111,16 @@ rooted_end (Some root) (Some path) first last rest =
 
 -- where the first row was read
 abbrev pub rooted_last : Option Digest → Option RowPath → ℕ → List ℕ → Result RootedRow ℕ
-rooted_last root path first bytes = then_read (rooted_end root path first) (number_left (is_start (row_in path)) 5 bytes)
+rooted_last root path first bytes = then_read (rooted_end root path first) (number_left (is_place_stated (row_in path)) 5 bytes)
 
 -- where the path was read
 abbrev pub rooted_first : Option Digest → Option RowPath → List ℕ → Result RootedRow ℕ
-rooted_first root path bytes = then_read (rooted_last root path) (number_left (is_start (row_in path)) 4 bytes)
+rooted_first root path bytes = then_read (rooted_last root path) (number_left (is_place_stated (row_in path)) 4 bytes)
 
 -- where the root was read
 abbrev pub rooted_path : Option Told → Option Digest → List ℕ → Result RootedRow ℕ
-rooted_path told root bytes = then_read (rooted_first root) (message_at (λ rest part. row_path_left told root part) 2 bytes)
+rooted_path told root bytes = then_read (rooted_first root) (optional_message (λ rest part. row_path_left told root part) 2 bytes)
 
 -- the row with its root that a message RowProof has, by what is told
 abbrev pub rooted_row_left : Option Told → List ℕ → Result RootedRow ℕ
-rooted_row_left told bytes = then_read (rooted_path told) (optional_at (digest_at 1) 1 bytes)
+rooted_row_left told bytes = then_read (rooted_path told) (optional_at (digest_field 1) 1 bytes)

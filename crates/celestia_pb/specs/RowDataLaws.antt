@@ -9,27 +9,27 @@ use Rattle.axis_roots.specs.declared.answers.Found.TheVariants.{Range, Absence}
 use Rattle.axis_roots.specs.declared.answers.NsEntry.{NsEntry}
 use Rattle.axis_roots.specs.Answers.{IsFound}
 use Rattle.celestia_pb.specs.Laws.{bytes_of_all}
-use Rattle.celestia_pb.specs.Samples.{share_text}
+use Rattle.celestia_pb.specs.Samples.{share_message}
 use Rattle.celestia_pb.specs.RowProofs.{leaf_count, row_proof_text}
-use Rattle.celestia_pb.specs.RowData.{has_message, found_text, row_value}
+use Rattle.celestia_pb.specs.RowData.{found_has_message, found_message, row_value}
 
 -- what is found is made of shares, digests and a place, and has a message
-pub record HasMessage (found : Found) : Type 0 where
+pub record FoundHasMessage (found : Found) : Type 0 where
   pub is : IsFound found
-  pub has : has_message found ≡ true
+  pub has : found_has_message found ≡ true
 
 -- the message of what is found is read as that, in whatever row
 abbrev pub RowIsRead : Type 0
-RowIsRead = (row : ℕ) (found : Found) → HasMessage found → row_value row (found_text found) ≡ Ok (record { row = row; found = found })
+RowIsRead = (row : ℕ) (found : Found) → FoundHasMessage found → row_value row (found_message found) ≡ Ok (record { row = row; found = found })
 
 -- what is read as an entry is one of the row, and the bytes are its message
 abbrev pub ReadIsRow : Type 0
 ReadIsRow = (row : ℕ) (bytes : List ℕ) (entry : NsEntry) → AreBytes bytes → row_value row bytes ≡ Ok entry
-    → (entry.row ≡ row) × HasMessage entry.found × (bytes ≡ found_text entry.found)
+    → (entry.row ≡ row) × FoundHasMessage entry.found × (bytes ≡ found_message entry.found)
 
 -- the messages of the shares that are found
 abbrev pub share_messages : Found → List (List ℕ)
-share_messages (Range start shares nodes) = map share_text shares
+share_messages (Range start shares nodes) = map share_message shares
 share_messages (Absence pos leaf nodes) = []
 
 -- that of the proof

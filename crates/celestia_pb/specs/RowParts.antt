@@ -3,8 +3,8 @@ use Rattle.std.specs.Prelude.{ℕ, List, [], ◌∷◌, Option, Some, None}
 use Rattle.namespace_id.specs.declared.digests.Digest.{Digest}
 use Rattle.axis_roots.specs.declared.answers.NsEntry.{NsEntry}
 use Rattle.celestia_pb.specs.declared.row_data.RowParts.{RowParts}
-use Rattle.celestia_pb.specs.RowShares.{shares_in}
-use Rattle.celestia_pb.specs.RowProofs.{ProofParts}
+use Rattle.celestia_pb.specs.RowShares.{tagged_shares}
+use Rattle.celestia_pb.specs.RowProofs.{RowProofParts}
 use Rattle.celestia_pb.specs.declared.row_proof.RowProof.{RowProof}
 use Rattle.celestia_pb.specs.RowData.{found_by}
 
@@ -14,10 +14,10 @@ hashes_of None = []
 hashes_of (Some hash) = hash ∷ []
 
 -- what a proof has
-abbrev pub parts_of : RowProof → ProofParts
-parts_of proof = (proof.start, (proof.nodes, hashes_of proof.hash))
+abbrev pub proof_parts : RowProof → RowProofParts
+proof_parts proof = (proof.start, (proof.nodes, hashes_of proof.hash))
 
 -- the entry of a row
 abbrev pub entry_by : ℕ → RowParts → List ℕ → NsEntry
 entry_by row parts bytes =
-    record { row = row; found = found_by (shares_in parts.count bytes) parts.proof.start parts.proof.nodes (hashes_of parts.proof.hash) }
+    record { row = row; found = found_by (tagged_shares parts.count bytes) parts.proof.start parts.proof.nodes (hashes_of parts.proof.hash) }

@@ -37,36 +37,36 @@ abbrev pub is_short : ℕ → Bool
 is_short start = nat_lt start (2 ^ 16)
 
 -- whether nothing is left, and the place behind the last, the flag and as many leaf hashes as there have to be are there
-abbrev pub is_complete : ℕ → ℕ → ℕ → ℕ → ℕ → ℕ → Bool
-is_complete count start stop hashes flag left =
+abbrev pub has_all_parts : ℕ → ℕ → ℕ → ℕ → ℕ → ℕ → Bool
+has_all_parts count start stop hashes flag left =
     (left == 0) && ((stop == start + leaf_count count) && ((hashes == hash_count count) && (flag == 1)))
 
 -- a first place, nodes and leaf hashes
-abbrev pub ProofParts : Type 0
-ProofParts = ℕ × (List Digest × List Digest)
+abbrev pub RowProofParts : Type 0
+RowProofParts = ℕ × (List Digest × List Digest)
 
 -- where the flag was read
-abbrev pub row_proof_end : ℕ → ℕ → ℕ → List Digest → List Digest → ℕ → List ℕ → Result ProofParts ℕ
+abbrev pub row_proof_end : ℕ → ℕ → ℕ → List Digest → List Digest → ℕ → List ℕ → Result RowProofParts ℕ
 row_proof_end count start stop nodes hashes flag rest =
-    if is_complete count start stop (length hashes) flag (length rest) then Ok (start, (nodes, hashes)) else Err (length rest)
+    if has_all_parts count start stop (length hashes) flag (length rest) then Ok (start, (nodes, hashes)) else Err (length rest)
 
 -- where the leaf hashes were read
-abbrev pub row_proof_flag : ℕ → ℕ → ℕ → List Digest → List Digest → List ℕ → Result ProofParts ℕ
+abbrev pub row_proof_flag : ℕ → ℕ → ℕ → List Digest → List Digest → List ℕ → Result RowProofParts ℕ
 row_proof_flag count start stop nodes hashes bytes = then_read (row_proof_end count start stop nodes hashes) (number_left is_flag 5 bytes)
 
 -- where the nodes were read
-abbrev pub row_proof_hashes : ℕ → ℕ → ℕ → List Digest → List ℕ → Result ProofParts ℕ
+abbrev pub row_proof_hashes : ℕ → ℕ → ℕ → List Digest → List ℕ → Result RowProofParts ℕ
 row_proof_hashes count start stop nodes bytes = then_read (row_proof_flag count start stop nodes) (digests_at 4 (hash_count count) bytes)
 
 -- where the place behind the last was read
-abbrev pub row_proof_nodes : ℕ → ℕ → ℕ → List ℕ → Result ProofParts ℕ
+abbrev pub row_proof_nodes : ℕ → ℕ → ℕ → List ℕ → Result RowProofParts ℕ
 row_proof_nodes count start stop bytes = then_read (row_proof_hashes count start stop) (digests_at 3 most_nodes bytes)
 
 -- where the first place was read
-abbrev pub row_proof_stop : ℕ → ℕ → List ℕ → Result ProofParts ℕ
+abbrev pub row_proof_stop : ℕ → ℕ → List ℕ → Result RowProofParts ℕ
 row_proof_stop count start bytes = then_read (row_proof_nodes count start) (number_left (is_stop start (leaf_count count)) 2 bytes)
 
 -- the first place, the nodes and the leaf hashes of the proof of so many shares that a message is, or how many bytes are left from
 -- the first field that is wrong on
-abbrev pub row_proof_left : ℕ → List ℕ → Result ProofParts ℕ
+abbrev pub row_proof_left : ℕ → List ℕ → Result RowProofParts ℕ
 row_proof_left count bytes = then_read (row_proof_stop count) (number_left is_short 1 bytes)

@@ -3,15 +3,15 @@ use Rattle.std.specs.Prelude.{ℕ, zero, suc, List, [], ◌∷◌, flat_map, Opt
 use Rattle.namespace_id.specs.declared.shares.Share.{Share}
 use Rattle.proto_fields.specs.Spelled.{bytes_field}
 use Rattle.celestia_pb.specs.Reading.{then_read}
-use Rattle.celestia_pb.specs.Messages.{message_at}
-use Rattle.celestia_pb.specs.Samples.{share_text, share_left}
+use Rattle.celestia_pb.specs.Messages.{optional_message}
+use Rattle.celestia_pb.specs.Samples.{share_message, share_left}
 use Rattle.celestia_pb.specs.ShareLists.{shares_behind}
 
 -- ---- written
 
 -- the field of a share
 abbrev pub share_field_text : Share → List ℕ
-share_field_text share = bytes_field 1 (share_text share)
+share_field_text share = bytes_field 1 (share_message share)
 
 -- those of shares
 abbrev pub shares_text : List Share → List ℕ
@@ -21,7 +21,7 @@ shares_text shares = flat_map share_field_text shares
 
 -- the share in a field that may be in front, and what follows
 abbrev pub share_field : List ℕ → Result (Option Share × List ℕ) ℕ
-share_field bytes = message_at (λ rest part. share_left part) 1 bytes
+share_field bytes = optional_message (λ rest part. share_left part) 1 bytes
 
 -- a share before others
 abbrev pub with_share : Share → Result (List Share × List ℕ) ℕ → Result (List Share × List ℕ) ℕ
@@ -45,5 +45,5 @@ abbrev pub share_entry_size : ℕ
 share_entry_size = 518
 
 -- so many shares, each behind two tags and lengths
-abbrev pub shares_in : ℕ → List ℕ → List Share
-shares_in count bytes = shares_behind 6 count bytes
+abbrev pub tagged_shares : ℕ → List ℕ → List Share
+tagged_shares count bytes = shares_behind 6 count bytes

@@ -10,7 +10,7 @@ use Rattle.proto_fields.specs.Fields.{FieldParts, fields_of, all_bytes, last_num
 use Rattle.celestia_pb.specs.declared.sample.Sample.{Sample}
 use Rattle.celestia_pb.specs.Laws.{bytes_of_all}
 use Rattle.celestia_pb.specs.Inclusions.{inclusion_text}
-use Rattle.celestia_pb.specs.Samples.{IsCell, IsSample, share_text, axis_number, place_on, sample_text, sample_value}
+use Rattle.celestia_pb.specs.Samples.{IsCell, IsSample, share_message, axis_number, place_on, sample_text, sample_value}
 
 -- the message of a sample is read as the sample
 abbrev pub SampleIsRead : Type 0
@@ -25,14 +25,14 @@ ReadIsSample = (cell : Cell) (bytes : List ℕ) (sample : Sample) → AreBytes b
 abbrev pub SampleIsCommon : Type 0
 SampleIsCommon = (cell : Cell) (bytes : List ℕ) (sample : Sample) → AreBytes bytes → sample_value cell bytes ≡ Ok sample
     → (fields : List FieldParts) × (fields_of bytes ≡ Some fields)
-    × (all_bytes 1 fields ≡ share_text sample.share ∷ [])
+    × (all_bytes 1 fields ≡ share_message sample.share ∷ [])
     × (all_bytes 2 fields ≡ inclusion_text (place_on sample.axis cell) 1 sample.path ∷ [])
     × (last_number 3 fields ≡ axis_number sample.axis)
 
 -- of the message of a share it has the bytes of the share
 abbrev pub ShareIsCommon : Type 0
 ShareIsCommon = (share : Share) → IsShare share
-    → (fields : List FieldParts) × (fields_of (share_text share) ≡ Some fields) × (all_bytes 1 fields ≡ share.0 ∷ [])
+    → (fields : List FieldParts) × (fields_of (share_message share) ≡ Some fields) × (all_bytes 1 fields ≡ share.0 ∷ [])
 
 -- of that of a proof both places, the nodes, no leaf hash, and the flag
 abbrev pub ProofIsCommon : Type 0

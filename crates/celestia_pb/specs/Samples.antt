@@ -12,8 +12,8 @@ use Rattle.namespace_id.specs.Sizes.{share_size, most_depth}
 use Rattle.proto_fields.specs.Spelled.{bytes_field}
 use Rattle.proto_fields.specs.Canonical.{number_text, canonical_number, canonical_part}
 use Rattle.celestia_pb.specs.declared.sample.Sample.{Sample}
-use Rattle.celestia_pb.specs.Reading.{then_read, or_left, placed}
-use Rattle.celestia_pb.specs.Messages.{message_at}
+use Rattle.celestia_pb.specs.Reading.{then_read, or_left, with_offset}
+use Rattle.celestia_pb.specs.Messages.{optional_message}
 use Rattle.celestia_pb.specs.Inclusions.{inclusion_text, inclusion_left}
 
 -- a cell has numbers of two bytes
@@ -30,8 +30,8 @@ pub record IsSample (sample : Sample) : Type 0 where
 -- ---- written
 
 -- the message Share
-abbrev pub share_text : Share → List ℕ
-share_text share = bytes_field 1 share.0
+abbrev pub share_message : Share → List ℕ
+share_message share = bytes_field 1 share.0
 
 -- the number of an axis
 abbrev pub axis_number : Axis → ℕ
@@ -46,7 +46,7 @@ place_on Col cell = cell.row
 -- the message of a sample of a cell
 abbrev pub sample_text : Cell → Sample → List ℕ
 sample_text cell sample =
-    bytes_field 1 (share_text sample.share)
+    bytes_field 1 (share_message sample.share)
     ++ (bytes_field 2 (inclusion_text (place_on sample.axis cell) 1 sample.path) ++ number_text 3 (axis_number sample.axis))
 
 -- ---- read
@@ -56,23 +56,23 @@ abbrev pub if_share : List ℕ × List ℕ → Option (Share × List ℕ)
 if_share read = if length read.0 == share_size then Some (record { 0 = read.0 }, read.1) else None
 
 -- the share at the front, and what follows
-abbrev pub share_at : List ℕ → Option (Share × List ℕ)
-share_at bytes = option_and_then if_share (canonical_part 1 bytes)
+abbrev pub share_front : List ℕ → Option (Share × List ℕ)
+share_front bytes = option_and_then if_share (canonical_part 1 bytes)
 
 -- the share that a message is
 abbrev pub share_end : Share → List ℕ → Result Share ℕ
 share_end share rest = if length rest == 0 then Ok share else Err (length rest)
 
 abbrev pub share_left : List ℕ → Result Share ℕ
-share_left bytes = then_read share_end (or_left bytes (share_at bytes))
+share_left bytes = then_read share_end (or_left bytes (share_front bytes))
 
 -- the axis that a number is
-abbrev pub axis_of : ℕ × List ℕ → Option (Axis × List ℕ)
-axis_of read = if read.0 == 0 then Some (Row, read.1) else (if read.0 == 1 then Some (Col, read.1) else None)
+abbrev pub axis_of_number : ℕ × List ℕ → Option (Axis × List ℕ)
+axis_of_number read = if read.0 == 0 then Some (Row, read.1) else (if read.0 == 1 then Some (Col, read.1) else None)
 
 -- the axis at the front, and what follows
 abbrev pub axis_at : List ℕ → Option (Axis × List ℕ)
-axis_at bytes = option_and_then axis_of (canonical_number 3 bytes)
+axis_at bytes = option_and_then axis_of_number (canonical_number 3 bytes)
 
 -- the place that a proof has to show, where the axis is known
 abbrev pub place_wanted : Cell → Option (Axis × List ℕ) → Option ℕ
@@ -100,12 +100,12 @@ sample_axis share path bytes = then_read (sample_of share path) (or_left bytes (
 
 -- where the share was read
 abbrev pub sample_path : Cell → Option Share → List ℕ → Result Sample ℕ
-sample_path cell share bytes = then_read (sample_axis share) (message_at (path_left cell) 2 bytes)
+sample_path cell share bytes = then_read (sample_axis share) (optional_message (path_left cell) 2 bytes)
 
 -- the sample that a message is, or how many bytes are left from the first field that is wrong on
 abbrev pub sample_left : Cell → List ℕ → Result Sample ℕ
-sample_left cell bytes = then_read (sample_path cell) (message_at (λ rest part. share_left part) 1 bytes)
+sample_left cell bytes = then_read (sample_path cell) (optional_message (λ rest part. share_left part) 1 bytes)
 
 -- the sample that a message is, or the offset of the first field that is wrong
 abbrev pub sample_value : Cell → List ℕ → Result Sample ℕ
-sample_value cell bytes = placed (length bytes) (sample_left cell bytes)
+sample_value cell bytes = with_offset (length bytes) (sample_left cell bytes)

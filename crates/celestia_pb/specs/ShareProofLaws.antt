@@ -12,7 +12,7 @@ use Rattle.proto_fields.specs.Fields.{FieldParts, fields_of, all_bytes, last_num
 use Rattle.celestia_pb.specs.Laws.{bytes_of_all}
 use Rattle.celestia_pb.specs.SharePaths.{share_path_text}
 use Rattle.celestia_pb.specs.RootedRows.{row_path_text, rooted_row_text}
-use Rattle.celestia_pb.specs.ShareProofs.{has_share_proof, name_of, share_part, row_part, id_in, version_in, share_proof_text, share_proof_value}
+use Rattle.celestia_pb.specs.ShareProofs.{has_share_proof, name_of, share_part, row_part, id_in, name_version, share_proof_text, share_proof_value}
 
 -- a root proof has a sample, a digest and hashes of their lengths, no more hashes than its type holds, and a message
 pub record IsShareProof (proof : RootedParts) : Type 0 where
@@ -37,7 +37,7 @@ ShareProofIsCommon = (bytes : List ℕ) (proof : RootedParts) → AreBytes bytes
     × (all_bytes 2 fields ≡ share_part proof ∷ [])
     × (all_bytes 3 fields ≡ id_in (name_of proof) ∷ [])
     × (all_bytes 4 fields ≡ row_part proof ∷ [])
-    × (last_number 5 fields ≡ version_in (name_of proof))
+    × (last_number 5 fields ≡ name_version (name_of proof))
 
 -- of the message of the share's proof it has both columns, the nodes, and no leaf hash
 abbrev pub SharePathIsCommon : Type 0

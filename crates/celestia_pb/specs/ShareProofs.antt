@@ -19,10 +19,10 @@ use Rattle.celestia_pb.specs.declared.rooted_row.Told.{Told}
 use Rattle.celestia_pb.specs.declared.rooted_row.RootedRow.{RootedRow}
 use Rattle.celestia_pb.specs.declared.share_proof.Names.{Names}
 use Rattle.celestia_pb.specs.declared.share_proof.Front.{Front}
-use Rattle.celestia_pb.specs.Reading.{then_read, placed}
-use Rattle.celestia_pb.specs.Messages.{number_left, message_at}
+use Rattle.celestia_pb.specs.Reading.{then_read, with_offset}
+use Rattle.celestia_pb.specs.Messages.{number_left, optional_message}
 use Rattle.celestia_pb.specs.BefpEntries.{data_at}
-use Rattle.celestia_pb.specs.Inclusions.{is_start}
+use Rattle.celestia_pb.specs.Inclusions.{is_place_stated}
 use Rattle.celestia_pb.specs.Aunts.{optional_at}
 use Rattle.celestia_pb.specs.SharePaths.{share_path_text, share_path_left}
 use Rattle.celestia_pb.specs.RootedRows.{row_path_text, rooted_row_text, rooted_row_left}
@@ -44,8 +44,8 @@ name_of proof = leaf_namespace proof.k proof.message.cell proof.message.share
 abbrev pub id_in : Namespace → List ℕ
 id_in name = drop 1 name.0
 
-abbrev pub version_in : Namespace → ℕ
-version_in name = slice_index name.0 0
+abbrev pub name_version : Namespace → ℕ
+name_version name = slice_index name.0 0
 
 -- ---- written
 
@@ -67,7 +67,7 @@ share_proof_text proof =
     bytes_field 1 proof.message.share.0
     ++ (bytes_field 2 (share_part proof)
     ++ (bytes_field 3 (id_in (name_of proof))
-    ++ (bytes_field 4 (row_part proof) ++ number_text 5 (version_in (name_of proof)))))
+    ++ (bytes_field 4 (row_part proof) ++ number_text 5 (name_version (name_of proof)))))
 
 -- ---- read
 
@@ -104,7 +104,7 @@ front_names share path bytes = then_read (front_end share path) (optional_at (na
 
 -- where the share was read
 abbrev pub front_path : Option Share → List ℕ → Result (Option Front × List ℕ) ℕ
-front_path share bytes = then_read (front_names share) (message_at (λ rest part. share_path_left part) 2 bytes)
+front_path share bytes = then_read (front_names share) (optional_message (λ rest part. share_path_left part) 2 bytes)
 
 -- what stands in front of the row's proof, and that
 abbrev pub front_left : List ℕ → Result (Option Front × List ℕ) ℕ
@@ -131,23 +131,23 @@ proof_by (Some front) None = None
 proof_by (Some front) (Some row) = Some (proof_of front row)
 
 -- the version of its leaf's namespace
-abbrev pub version_of : Option RootedParts → Option ℕ
-version_of proof = option_map (λ (p : RootedParts). version_in (name_of p)) proof
+abbrev pub proved_version : Option RootedParts → Option ℕ
+proved_version proof = option_map (λ (p : RootedParts). name_version (name_of p)) proof
 
 -- the root proof, where it is there, with its version, and nothing follows
 abbrev pub share_proof_end : Option RootedParts → ℕ → List ℕ → Result RootedParts ℕ
 share_proof_end None version rest = Err (length rest)
 share_proof_end (Some proof) version rest =
-    if (length rest == 0) && (version == version_in (name_of proof)) then Ok proof else Err (length rest)
+    if (length rest == 0) && (version == name_version (name_of proof)) then Ok proof else Err (length rest)
 
 -- where the row's proof was read
 abbrev pub share_proof_version : Option Front → Option RootedRow → List ℕ → Result RootedParts ℕ
 share_proof_version front row bytes =
-    then_read (share_proof_end (proof_by front row)) (number_left (is_start (version_of (proof_by front row))) 5 bytes)
+    then_read (share_proof_end (proof_by front row)) (number_left (is_place_stated (proved_version (proof_by front row))) 5 bytes)
 
 -- where what stands in front of it was read
 abbrev pub share_proof_row : Option Front → List ℕ → Result RootedParts ℕ
-share_proof_row front bytes = then_read (share_proof_version front) (message_at (λ rest part. rooted_row_left (told_by front) part) 4 bytes)
+share_proof_row front bytes = then_read (share_proof_version front) (optional_message (λ rest part. rooted_row_left (told_by front) part) 4 bytes)
 
 -- the root proof that a message is, or how many bytes are left from the first field that is wrong on
 abbrev pub share_proof_left : List ℕ → Result RootedParts ℕ
@@ -155,4 +155,4 @@ share_proof_left bytes = then_read share_proof_row (front_left bytes)
 
 -- the root proof that a message is, or the offset of the first field that is wrong
 abbrev pub share_proof_value : List ℕ → Result RootedParts ℕ
-share_proof_value bytes = placed (length bytes) (share_proof_left bytes)
+share_proof_value bytes = with_offset (length bytes) (share_proof_left bytes)

@@ -4,7 +4,7 @@ ghost use Rattle.std.specs.Prelude.{◌≡◌, ◌+◌, ◌≤◌, ◌<◌, ◌+
 ghost use Rattle.namespace_id.specs.Answers.{Gives, HasRoom};
 ghost use Rattle.data_header.specs.Paths.{most_hashes};
 ghost use Rattle.proto_fields.specs.Canonical.{parts_text};
-ghost use Rattle.celestia_pb.specs.Reading.{Reads};
+ghost use Rattle.celestia_pb.specs.Reading.{ReadsMessage};
 ghost use Rattle.celestia_pb.specs.Aunts.{aunt_at, aunts_at};
 
 use crate::entries::put_entry;
@@ -44,7 +44,7 @@ fn hash_of(bytes: &[u8]) -> [u8; HASH_SIZE]
 /// left from it on.
 pub(crate) fn aunts_at(number: u8, bytes: &[u8]) -> Result<(RootPath, &[u8]), usize>
     requires { number < 16 }
-    ensures value { Reads (λ x. (x.0, x.1.now)) result (aunts_at number most_hashes bytes.now) }
+    ensures value { ReadsMessage (λ x. (x.0, x.1.now)) result (aunts_at number most_hashes bytes.now) }
     ensures shorter { IfOk result (λ x. length x.1.now ≤ length bytes.now) }
     ensures within { IfErr result (λ left. left ≤ length bytes.now) }
 {

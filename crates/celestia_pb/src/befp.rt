@@ -1,10 +1,10 @@
 //! Fraud claims as messages BadEncoding.
 
 ghost use Rattle.std.specs.Prelude.{◌≡◌, ◌==◌, ◌&&◌, ◌↔◌, ℕ, ◌≤◌, true, Ok, Err, IfOk, IsErrOf};
-ghost use Rattle.celestia_pb.specs.Reading.{Reads};
+ghost use Rattle.celestia_pb.specs.Reading.{ReadsMessage};
 ghost use Rattle.celestia_pb.specs.Messages.{number_left};
 ghost use Rattle.celestia_pb.specs.BefpEntries.{has_read};
-ghost use Rattle.celestia_pb.specs.Befp.{is_index, accused_left, outline_at, has_places, claim_read, places_by, is_height, hash_at, befp_left, befp_value};
+ghost use Rattle.celestia_pb.specs.Befp.{is_index, accused_left, outline_at, has_places, claim_read, places_by, is_height, hash_matches, befp_left, befp_value};
 ghost use Rattle.celestia_pb.specs.BefpLaws.{BefpIsRead, ReadIsBefp, BefpIsCommon, EntryIsCommon, FlaggedIsCommon};
 
 use crate::befp_entries::{Accused, Seen, axis_in};
@@ -34,7 +34,7 @@ struct Outline {
 
 /// The index at the front, and the bytes after it; where it is wrong, how many bytes are left.
 fn index_at(count: u16, bytes: &[u8]) -> Result<(u64, &[u8]), usize>
-    ensures value { Reads (λ x. (x.0, x.1.now)) result (number_left (is_index count) 4 bytes.now) }
+    ensures value { ReadsMessage (λ x. (x.0, x.1.now)) result (number_left (is_index count) 4 bytes.now) }
     ensures few { IfOk result (λ x. x.0 ≤ count) }
 {
     let (index, rest) = number_at(INDEX, bytes)?;
@@ -47,7 +47,7 @@ fn index_at(count: u16, bytes: &[u8]) -> Result<(u64, &[u8]), usize>
 /// The axis that the fields behind so many places accuse, and what is left, nothing; where a field is wrong, how many bytes
 /// are left from it on.
 fn accused_at(count: u16, bytes: &[u8]) -> Result<(Accused, &[u8]), usize>
-    ensures value { Reads (λ x. (x.0, x.1.now)) result (accused_left count bytes.now) }
+    ensures value { ReadsMessage (λ x. (x.0, x.1.now)) result (accused_left count bytes.now) }
 {
     let (index, behind) = index_at(count, bytes)?;
     let Some((axis, rest)) = axis_in(KIND, behind) else {
@@ -97,7 +97,7 @@ fn is_all(told: bool, number: u64, height: u64, seen: Seen) -> bool
 
 /// Whether this hash is at the front, and the bytes after it; where another one is, how many bytes are left.
 fn hash_at<'a>(hash: &[u8; 32], bytes: &'a [u8]) -> Result<(bool, &'a [u8]), usize>
-    ensures value { Reads (λ x. (x.0, x.1.now)) result (hash_at hash.now bytes.now) }
+    ensures value { ReadsMessage (λ x. (x.0, x.1.now)) result (hash_matches hash.now bytes.now) }
 {
     if !begins_part(HASH, bytes) {
         return Ok((false, bytes));
@@ -113,7 +113,7 @@ fn hash_at<'a>(hash: &[u8; 32], bytes: &'a [u8]) -> Result<(bool, &'a [u8]), usi
 
 /// The height at the front, and the bytes after it; where it is another one, how many bytes are left.
 fn height_at(height: u64, bytes: &[u8]) -> Result<(u64, &[u8]), usize>
-    ensures value { Reads (λ x. (x.0, x.1.now)) result (number_left (is_height height) 2 bytes.now) }
+    ensures value { ReadsMessage (λ x. (x.0, x.1.now)) result (number_left (is_height height) 2 bytes.now) }
 {
     let (number, rest) = number_at(HEIGHT, bytes)?;
     if number != 0 && number != height {
@@ -129,7 +129,7 @@ fn plan_in<'a>(
     height: u64,
     bytes: &'a [u8],
 ) -> Result<(Accused, Outline, &'a [u8]), usize>
-    ensures claim { Reads (λ x. claim_read x.0 (places_by x.1 x.2.now)) result (befp_left hash.now height bytes.now) }
+    ensures claim { ReadsMessage (λ x. claim_read x.0 (places_by x.1 x.2.now)) result (befp_left hash.now height bytes.now) }
     ensures read { IfOk result (λ x. has_read (places_by x.1 x.2.now) ≡ true) }
 {
     let (told, behind) = hash_at(hash, bytes)?;

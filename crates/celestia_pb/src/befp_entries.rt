@@ -3,10 +3,10 @@
 ghost use Rattle.std.specs.Prelude.{◌≡◌, ◌+◌, ◌*◌, ◌≤◌, ◌<◌, length, IfOk, IfErr, IfSome};
 ghost use Rattle.namespace_id.specs.Answers.{Gives};
 ghost use Rattle.namespace_id.specs.Sizes.{most_depth};
-ghost use Rattle.celestia_pb.specs.Reading.{Reads};
+ghost use Rattle.celestia_pb.specs.Reading.{ReadsMessage};
 ghost use Rattle.celestia_pb.specs.Digests.{digests_in, entry_size};
-ghost use Rattle.celestia_pb.specs.Messages.{number_left, message_at};
-ghost use Rattle.celestia_pb.specs.BefpEntries.{is_mark, is_proof, proof_left, axis_in, start_wanted, data_at, entry_left, cell_of, passed, step_left};
+ghost use Rattle.celestia_pb.specs.Messages.{number_left, optional_message};
+ghost use Rattle.celestia_pb.specs.BefpEntries.{is_mark, is_proof, proof_left, axis_field, start_wanted, data_at, entry_left, accused_cell, seen_place, step_left};
 
 use crate::digests::count_digests;
 use crate::inclusions::{first_place, is_sum, path_in, start_at, stop_at};
@@ -59,7 +59,7 @@ fn is_mark(mark: Option<u64>, flag: u64) -> bool
 
 /// The flag at the front, and the bytes after it; where it is wrong, how many bytes are left.
 fn mark_at(mark: Option<u64>, bytes: &[u8]) -> Result<(u64, &[u8]), usize>
-    ensures value { Reads (λ x. (x.0, x.1.now)) result (number_left (is_mark mark) 5 bytes.now) }
+    ensures value { ReadsMessage (λ x. (x.0, x.1.now)) result (number_left (is_mark mark) 5 bytes.now) }
     ensures shorter { IfOk result (λ x. length x.1.now ≤ length bytes.now) }
     ensures within { IfErr result (λ left. left ≤ length bytes.now) }
 {
@@ -95,7 +95,7 @@ fn proof_at(
     mark: Option<u64>,
     bytes: &[u8],
 ) -> Result<(usize, u64, &[u8]), usize>
-    ensures value { Reads (λ x. (digests_in x.0 x.2.now, x.1)) result (proof_left wanted mark bytes.now) }
+    ensures value { ReadsMessage (λ x. (digests_in x.0 x.2.now, x.1)) result (proof_left wanted mark bytes.now) }
     ensures size { IfOk result (λ x. entry_size * x.0 ≤ length x.2.now) }
     ensures few { IfOk result (λ x. x.0 ≤ most_depth) }
     ensures within { IfErr result (λ left. left ≤ length bytes.now) }
@@ -114,7 +114,7 @@ fn proof_at(
 
 /// The nodes and the flag of a proof of one leaf.
 fn proof_in(wanted: Option<u64>, mark: Option<u64>, bytes: &[u8]) -> Result<(Path, u64), usize>
-    ensures value { Reads (λ x. (x.0, x.1)) result (proof_left wanted mark bytes.now) }
+    ensures value { ReadsMessage (λ x. (x.0, x.1)) result (proof_left wanted mark bytes.now) }
     ensures within { IfErr result (λ left. left ≤ length bytes.now) }
 {
     let (count, flag, nodes) = proof_at(wanted, mark, bytes)?;
@@ -124,7 +124,7 @@ fn proof_in(wanted: Option<u64>, mark: Option<u64>, bytes: &[u8]) -> Result<(Pat
 /// The axis that the field of this number is at the front, and the bytes after it.
 pub(crate) fn axis_in(number: u8, bytes: &[u8]) -> Option<(Axis, &[u8])>
     requires { number < 16 }
-    ensures value { Gives (λ x. (x.0, x.1.now)) result (axis_in number bytes.now) }
+    ensures value { Gives (λ x. (x.0, x.1.now)) result (axis_field number bytes.now) }
     ensures shorter { IfSome result (λ x. length x.1.now ≤ length bytes.now) }
 {
     let Ok((kind, rest)) = number_at(number, bytes) else {
@@ -153,7 +153,7 @@ fn proof_field(
     mark: Option<u64>,
     bytes: &[u8],
 ) -> Result<(Option<(Path, u64)>, &[u8]), usize>
-    ensures value { Reads (λ x. (x.0, x.1.now)) result (message_at (λ rest part. proof_left (start_wanted cell rest) mark part) 2 bytes.now) }
+    ensures value { ReadsMessage (λ x. (x.0, x.1.now)) result (optional_message (λ rest part. proof_left (start_wanted cell rest) mark part) 2 bytes.now) }
     ensures shorter { IfOk result (λ x. length x.1.now ≤ length bytes.now) }
     ensures within { IfErr result (λ left. left ≤ length bytes.now) }
 {
@@ -171,7 +171,7 @@ fn proof_field(
 
 /// The share in a field that may be at the front, and the bytes after it; where it is wrong, how many bytes are left.
 pub(crate) fn data_at(bytes: &[u8]) -> Result<(Option<Share>, &[u8]), usize>
-    ensures value { Reads (λ x. (x.0, x.1.now)) result (data_at bytes.now) }
+    ensures value { ReadsMessage (λ x. (x.0, x.1.now)) result (data_at bytes.now) }
     ensures shorter { IfOk result (λ x. length x.1.now ≤ length bytes.now) }
     ensures within { IfErr result (λ left. left ≤ length bytes.now) }
 {
@@ -186,7 +186,7 @@ pub(crate) fn data_at(bytes: &[u8]) -> Result<(Option<Share>, &[u8]), usize>
 
 /// The sample that a message is, and the flag of its proof; where a field is wrong, how many bytes are left from it on.
 fn entry_in(cell: Option<Cell>, mark: Option<u64>, bytes: &[u8]) -> Result<(Sample, u64), usize>
-    ensures value { Reads (λ x. (x.0, x.1)) result (entry_left cell mark bytes.now) }
+    ensures value { ReadsMessage (λ x. (x.0, x.1)) result (entry_left cell mark bytes.now) }
     ensures within { IfErr result (λ left. left ≤ length bytes.now) }
 {
     let (share, behind) = data_at(bytes)?;
@@ -205,7 +205,7 @@ fn entry_in(cell: Option<Cell>, mark: Option<u64>, bytes: &[u8]) -> Result<(Samp
 
 /// The cell at a place of the accused axis, where this is known.
 fn cell_of(accused: Option<Accused>, place: u16) -> Option<Cell>
-    ensures { result ≡ cell_of accused place }
+    ensures { result ≡ accused_cell accused place }
 {
     let accused = accused?;
     Some(cell_on(accused.axis, accused.index, place))
@@ -221,7 +221,7 @@ pub(crate) fn next_place(
 ) -> Result<(Option<Sample>, Seen, &[u8]), usize>
     requires places { seen.place < 1024 }
     requires shares { seen.shares ≤ seen.place }
-    ensures value { Reads (λ x. ((x.0, x.1), x.2.now)) result (step_left accused most seen bytes.now) }
+    ensures value { ReadsMessage (λ x. ((x.0, x.1), x.2.now)) result (step_left accused most seen bytes.now) }
     ensures place { IfOk result (λ x. x.1.place ≡ seen.place + 1) }
     ensures shares { IfOk result (λ x. x.1.shares ≤ x.1.place) }
 {

@@ -2,7 +2,7 @@
 
 ghost use Rattle.std.specs.Prelude.{◌≡◌, ◌+◌, ◌≤◌, ◌++◌, [], ◌∷◌, length, true, Ok, IfOk};
 ghost use Rattle.namespace_id.specs.Sizes.{greatest_width};
-ghost use Rattle.celestia_pb.specs.Reading.{Reads};
+ghost use Rattle.celestia_pb.specs.Reading.{ReadsMessage};
 ghost use Rattle.celestia_pb.specs.BefpEntries.{none_seen, places_at, cells_of, cells_read, seen_read, has_read};
 ghost use Rattle.celestia_pb.specs.Befp.{count_at};
 
@@ -27,7 +27,7 @@ const NONE_SEEN: Seen = Seen {
 /// How many fields of places are at the front, at most `MOST_PLACES`, and the bytes after them; where the length of one is
 /// wrong, how many bytes are left from it on.
 pub(crate) fn count_places(bytes: &[u8]) -> Result<(u16, &[u8]), usize>
-    ensures value { Reads (λ x. (x.0, x.1.now)) result (count_at 0 1024 bytes.now) }
+    ensures value { ReadsMessage (λ x. (x.0, x.1.now)) result (count_at 0 1024 bytes.now) }
     ensures few { IfOk result (λ x. x.0 ≤ 1024) }
 {
     let mut count = 0;
@@ -52,7 +52,7 @@ pub(crate) fn look_along(
     most: u16,
     bytes: &[u8],
 ) -> Result<(Seen, &[u8]), usize>
-    ensures value { Reads (λ x. (x.0, x.1.now)) result (seen_read (places_at accused most 1024 none_seen bytes.now)) }
+    ensures value { ReadsMessage (λ x. (x.0, x.1.now)) result (seen_read (places_at accused most 1024 none_seen bytes.now)) }
     ensures few { IfOk result (λ x. x.0.place ≤ 1024) }
 {
     let mut seen = NONE_SEEN;

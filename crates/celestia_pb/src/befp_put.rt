@@ -8,8 +8,8 @@ ghost use Rattle.namespace_id.specs.Lists.{holds_along};
 ghost use Rattle.proto_fields.specs.Spelled.{bytes_field};
 ghost use Rattle.axis_roots.specs.Messages.{position};
 ghost use Rattle.axis_roots.specs.Claims.{is_on, has_shape};
-ghost use Rattle.celestia_pb.specs.BefpEntries.{entry_text, place_text, places_text, shown_at, behind_place, places_of};
-ghost use Rattle.celestia_pb.specs.Befp.{has_message, befp_text};
+ghost use Rattle.celestia_pb.specs.BefpEntries.{befp_entry, befp_place, places_text, shown_at, behind_place, places_of};
+ghost use Rattle.celestia_pb.specs.Befp.{claim_has_message, befp_text};
 
 use crate::befp_entries::{AXIS, DATA, PLACE, PROOF};
 use crate::entries::{number_size, part_size, put_entry, put_front};
@@ -76,14 +76,14 @@ fn has_shape(k: u16, claim: &FraudClaim) -> bool
 
 /// Whether a claim has a message.
 fn has_message(k: u16, claim: &FraudClaim) -> bool
-    ensures { result ≡ has_message k claim.now }
+    ensures { result ≡ claim_has_message k claim.now }
 {
     is_width(k) && claim.set.is_none() && has_shape(k, claim) && are_below(claim, 2 * k)
 }
 
 /// How many bytes the message of a share with its proof takes.
 fn entry_size(message: &Message) -> usize
-    ensures value { result ≡ length (entry_text 1 message.now) }
+    ensures value { result ≡ length (befp_entry 1 message.now) }
     ensures few { result ≤ 2000 }
 {
     message_law(message);
@@ -95,9 +95,9 @@ fn entry_size(message: &Message) -> usize
 
 /// Appends the message of a share with its proof, for which there is capacity.
 fn put_message(message: &Message, out: &mut Vec<u8>)
-    requires room { HasRoom out.old (length (entry_text 1 message.now)) }
-    ensures appended { out.new.items ≡ out.old.items ++ entry_text 1 message.now }
-    ensures len { vec_len out.new ≡ vec_len out.old + length (entry_text 1 message.now) }
+    requires room { HasRoom out.old (length (befp_entry 1 message.now)) }
+    ensures appended { out.new.items ≡ out.old.items ++ befp_entry 1 message.now }
+    ensures len { vec_len out.new ≡ vec_len out.old + length (befp_entry 1 message.now) }
     ensures capacity { vec_capacity out.old ≤ vec_capacity out.new }
 {
     put_entry(DATA, &message.share.0, out);
@@ -133,7 +133,7 @@ fn behind_place(axis: Axis, place: u16, cells: &[Message]) -> &[Message]
 
 /// How many bytes the field of a place takes.
 fn place_size(axis: Axis, place: u16, cells: &[Message]) -> usize
-    ensures value { result ≡ length (bytes_field 3 (place_text 1 (shown_at axis place cells.now))) }
+    ensures value { result ≡ length (bytes_field 3 (befp_place 1 (shown_at axis place cells.now))) }
     ensures few { result ≤ 3000 }
 {
     match shown_at(axis, place, cells) {
@@ -144,9 +144,9 @@ fn place_size(axis: Axis, place: u16, cells: &[Message]) -> usize
 
 /// Appends the field of a place, for which there is capacity.
 fn put_place(axis: Axis, place: u16, cells: &[Message], out: &mut Vec<u8>)
-    requires room { HasRoom out.old (length (bytes_field 3 (place_text 1 (shown_at axis place cells.now)))) }
-    ensures appended { out.new.items ≡ out.old.items ++ bytes_field 3 (place_text 1 (shown_at axis place cells.now)) }
-    ensures len { vec_len out.new ≡ vec_len out.old + length (bytes_field 3 (place_text 1 (shown_at axis place cells.now))) }
+    requires room { HasRoom out.old (length (bytes_field 3 (befp_place 1 (shown_at axis place cells.now)))) }
+    ensures appended { out.new.items ≡ out.old.items ++ bytes_field 3 (befp_place 1 (shown_at axis place cells.now)) }
+    ensures len { vec_len out.new ≡ vec_len out.old + length (bytes_field 3 (befp_place 1 (shown_at axis place cells.now))) }
     ensures capacity { vec_capacity out.old ≤ vec_capacity out.new }
 {
     match shown_at(axis, place, cells) {
@@ -195,7 +195,7 @@ fn put_places(k: u16, axis: Axis, cells: &[Message], out: &mut Vec<u8>)
 ///
 /// Celestia specifications, "Fraud Proofs", bad encoding; protobuf, "Encoding".
 pub fn befp_size(k: u16, height: u64, claim: &FraudClaim) -> Option<usize>
-    ensures which { IsSome result ↔ (has_message k claim.now ≡ true) }
+    ensures which { IsSome result ↔ (claim_has_message k claim.now ≡ true) }
     ensures size { (hash : List ℕ) → length hash ≡ 32 → IfSome result (λ size. size ≡ length (befp_text 1 k hash height claim.now)) }
 {
     if !has_message(k, claim) {
@@ -212,7 +212,7 @@ pub fn befp_size(k: u16, height: u64, claim: &FraudClaim) -> Option<usize>
 ///
 /// Celestia specifications, "Fraud Proofs", bad encoding; protobuf, "Encoding".
 pub fn put_befp(k: u16, hash: &[u8; 32], height: u64, claim: &FraudClaim, out: &mut Vec<u8>)
-    requires which { has_message k claim.now ≡ true }
+    requires which { claim_has_message k claim.now ≡ true }
     requires room { HasRoom out.old (length (befp_text 1 k hash.now height claim.now)) }
     ensures appended { out.new.items ≡ out.old.items ++ befp_text 1 k hash.now height claim.now }
     ensures len { vec_len out.new ≡ vec_len out.old + length (befp_text 1 k hash.now height claim.now) }

@@ -3,7 +3,7 @@
 ghost use Rattle.std.specs.Prelude.{◌≡◌, ◌↔◌, ℕ, ◌+◌, ◌*◌, ◌≤◌, ◌++◌, ◌==◌, ◌&&◌, length, drop, true, Err, vec_len, vec_capacity, Ok, IfOk, IfErr, IsErrOf};
 ghost use Rattle.namespace_id.specs.Answers.{HasRoom};
 ghost use Rattle.namespace_id.specs.Cells.{is_width};
-ghost use Rattle.celestia_pb.specs.Reading.{Reads};
+ghost use Rattle.celestia_pb.specs.Reading.{ReadsMessage};
 ghost use Rattle.celestia_pb.specs.Digests.{digests_in, entry_size};
 ghost use Rattle.celestia_pb.specs.Headers.{dah_text, has_counts, dah_left, dah_value};
 ghost use Rattle.celestia_pb.specs.Laws.{DahIsRead, ReadIsDah, DahIsCommon};
@@ -30,7 +30,7 @@ fn are_all(rows: usize, cols: usize, rest: &[u8]) -> bool
 
 /// The width of the header that a message is, or how many bytes are left from the first field that is wrong on.
 pub(crate) fn dah_width(bytes: &[u8]) -> Result<u16, usize>
-    ensures value { Reads (λ k. record { k = k; rows = digests_in (2 * k) bytes.now; cols = digests_in (2 * k) (drop (entry_size * (2 * k)) bytes.now) })
+    ensures value { ReadsMessage (λ k. record { k = k; rows = digests_in (2 * k) bytes.now; cols = digests_in (2 * k) (drop (entry_size * (2 * k)) bytes.now) })
         result (dah_left bytes.now) }
     ensures size { IfOk result (λ k. entry_size * (4 * k) ≡ length bytes.now) }
     ensures within { IfErr result (λ left. left ≤ length bytes.now) }

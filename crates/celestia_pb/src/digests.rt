@@ -2,8 +2,8 @@
 
 ghost use Rattle.std.specs.Prelude.{◌≡◌, ◌+◌, ◌*◌, ◌≤◌, ◌<◌, ◌++◌, length, drop, vec_len, vec_capacity, IfOk, IfErr};
 ghost use Rattle.namespace_id.specs.Answers.{Gives, HasRoom};
-ghost use Rattle.celestia_pb.specs.Reading.{Reads};
-ghost use Rattle.celestia_pb.specs.Digests.{digests_text, digest_at, digests_at, digests_in, entry_digest, entry_size};
+ghost use Rattle.celestia_pb.specs.Reading.{ReadsMessage};
+ghost use Rattle.celestia_pb.specs.Digests.{digests_text, digest_field, digests_at, digests_in, entry_digest, entry_size};
 
 use crate::entries::put_entry;
 use namespace_id::{DIGEST_SIZE, Digest, NoMemory, bytes_law};
@@ -19,7 +19,7 @@ pub(crate) const ENTRY_SIZE: usize = FRONT_SIZE + DIGEST_SIZE;
 /// The digest in a field of this number at the front, and the bytes after it.
 pub(crate) fn digest_at(number: u8, bytes: &[u8]) -> Option<(Digest, &[u8])>
     requires { number < 16 }
-    ensures { Gives (λ x. (x.0, x.1.now)) result (digest_at number bytes.now) }
+    ensures { Gives (λ x. (x.0, x.1.now)) result (digest_field number bytes.now) }
 {
     let (part, rest) = canonical_part(number, bytes)?;
     if part.len() != DIGEST_SIZE {
@@ -34,7 +34,7 @@ pub(crate) fn digest_at(number: u8, bytes: &[u8]) -> Option<(Digest, &[u8])>
 /// is wrong, how many bytes are left from it on.
 pub(crate) fn count_digests(number: u8, most: usize, bytes: &[u8]) -> Result<(usize, &[u8]), usize>
     requires { number < 16 }
-    ensures value { Reads (λ x. (digests_in x.0 bytes.now, x.1.now)) result (digests_at number most bytes.now) }
+    ensures value { ReadsMessage (λ x. (digests_in x.0 bytes.now, x.1.now)) result (digests_at number most bytes.now) }
     ensures behind { IfOk result (λ x. x.1.now ≡ drop (entry_size * x.0) bytes.now) }
     ensures size { IfOk result (λ x. entry_size * x.0 + length x.1.now ≡ length bytes.now) }
     ensures few { IfOk result (λ x. x.0 ≤ most) }

@@ -3,10 +3,10 @@
 ghost use Rattle.std.specs.Prelude.{◌≡◌, ◌↔◌, ℕ, ◌+◌, ◌*◌, ◌≤◌, length, true, Result, ⊤, Ok, Err, IfOk, IfErr, IfSome, IsErrOf};
 ghost use Rattle.namespace_id.specs.Answers.{Gives};
 ghost use Rattle.namespace_id.specs.Cells.{is_width};
-ghost use Rattle.celestia_pb.specs.Reading.{Reads};
+ghost use Rattle.celestia_pb.specs.Reading.{ReadsMessage};
 ghost use Rattle.celestia_pb.specs.Digests.{entry_size};
 ghost use Rattle.celestia_pb.specs.Headers.{dah_left};
-ghost use Rattle.celestia_pb.specs.Extended.{from_field, none_of, lenient_part, message_in, hash_size, hash_at, data_hash_left, header_left, roots_left, once_at_most, both_read, besides, extended_left, extended_value, roots_by, extended_by};
+ghost use Rattle.celestia_pb.specs.Extended.{from_field, none_of, lenient_part, submessage, hash_size, hash_front, data_hash_left, header_left, roots_left, once_at_most, both_read, besides, extended_left, extended_value, roots_by, extended_from};
 ghost use Rattle.celestia_pb.specs.ExtendedLaws.{ExtendedIsRead, ExtendedIsCommon};
 
 use crate::dah::{dah_width, header_in};
@@ -52,7 +52,7 @@ pub(crate) struct Parts<'a> {
 /// The bytes from the first field of this number on, none where there is none; where something before it is no field, how many
 /// are left.
 fn from_field(number: u32, bytes: &[u8]) -> Result<&[u8], usize>
-    ensures value { Reads (λ from. from.now) result (from_field number bytes.now) }
+    ensures value { ReadsMessage (λ from. from.now) result (from_field number bytes.now) }
     ensures shorter { IfOk result (λ from. length from.now ≤ length bytes.now) }
     ensures within { IfErr result (λ left. left ≤ length bytes.now) }
 {
@@ -71,7 +71,7 @@ fn from_field(number: u32, bytes: &[u8]) -> Result<&[u8], usize>
 
 /// Refuses a field of this number.
 fn none_of(number: u32, bytes: &[u8]) -> Result<(), usize>
-    ensures value { Reads (λ right. right) result (none_of number bytes.now) }
+    ensures value { ReadsMessage (λ right. right) result (none_of number bytes.now) }
     ensures within { IfErr result (λ left. left ≤ length bytes.now) }
 {
     let from = from_field(number, bytes)?;
@@ -95,7 +95,7 @@ fn lenient_part(bytes: &[u8]) -> Option<(&[u8], &[u8])>
 
 /// The data hash that the field at the front is, and the bytes after it.
 fn hash_at(bytes: &[u8]) -> Option<(&[u8], &[u8])>
-    ensures value { Gives (λ x. (x.0.now, x.1.now)) result (hash_at bytes.now) }
+    ensures value { Gives (λ x. (x.0.now, x.1.now)) result (hash_front bytes.now) }
     ensures shorter { IfSome result (λ x. length x.1.now ≤ length bytes.now) }
     ensures size { IfSome result (λ x. length x.0.now ≡ hash_size) }
 {
@@ -108,7 +108,7 @@ fn hash_at(bytes: &[u8]) -> Option<(&[u8], &[u8])>
 
 /// The data hash of a block's header; where a field is wrong, how many bytes are left from it on.
 fn data_hash_in(bytes: &[u8]) -> Result<&[u8], usize>
-    ensures value { Reads (λ hash. hash.now) result (data_hash_left bytes.now) }
+    ensures value { ReadsMessage (λ hash. hash.now) result (data_hash_left bytes.now) }
     ensures size { IfOk result (λ hash. length hash.now ≡ hash_size) }
     ensures within { IfErr result (λ left. left ≤ length bytes.now) }
 {
@@ -122,7 +122,7 @@ fn data_hash_in(bytes: &[u8]) -> Result<&[u8], usize>
 
 /// The data hash of the block's header in the field at the front, and the bytes after it.
 fn header_at(bytes: &[u8]) -> Result<(&[u8], &[u8]), usize>
-    ensures value { Reads (λ x. (x.0.now, x.1.now)) result (message_in data_hash_left bytes.now) }
+    ensures value { ReadsMessage (λ x. (x.0.now, x.1.now)) result (submessage data_hash_left bytes.now) }
     ensures size { IfOk result (λ x. length x.0.now ≡ hash_size) }
 {
     let Some((part, rest)) = lenient_part(bytes) else {
@@ -136,7 +136,7 @@ fn header_at(bytes: &[u8]) -> Result<(&[u8], &[u8]), usize>
 
 /// The data hash in a message.
 fn data_hash_of(bytes: &[u8]) -> Result<&[u8], usize>
-    ensures value { Reads (λ hash. hash.now) result (header_left bytes.now) }
+    ensures value { ReadsMessage (λ hash. hash.now) result (header_left bytes.now) }
     ensures size { IfOk result (λ hash. length hash.now ≡ hash_size) }
 {
     let from = from_field(HEADER, bytes)?;
@@ -147,7 +147,7 @@ fn data_hash_of(bytes: &[u8]) -> Result<&[u8], usize>
 
 /// The width and the bytes of the axis roots in the field at the front, and the bytes after it.
 fn roots_at(bytes: &[u8]) -> Result<(u16, &[u8], &[u8]), usize>
-    ensures value { Reads (λ x. (roots_by x.0 x.1.now, x.2.now)) result (message_in dah_left bytes.now) }
+    ensures value { ReadsMessage (λ x. (roots_by x.0 x.1.now, x.2.now)) result (submessage dah_left bytes.now) }
     ensures size { IfOk result (λ x. entry_size * (4 * x.0) ≡ length x.1.now) }
     ensures width { IfOk result (λ x. is_width x.0 ≡ true) }
 {
@@ -162,7 +162,7 @@ fn roots_at(bytes: &[u8]) -> Result<(u16, &[u8], &[u8]), usize>
 
 /// The width and the bytes of the axis roots in a message.
 fn roots_of(bytes: &[u8]) -> Result<(u16, &[u8]), usize>
-    ensures value { Reads (λ x. roots_by x.0 x.1.now) result (roots_left bytes.now) }
+    ensures value { ReadsMessage (λ x. roots_by x.0 x.1.now) result (roots_left bytes.now) }
     ensures size { IfOk result (λ x. entry_size * (4 * x.0) ≡ length x.1.now) }
     ensures width { IfOk result (λ x. is_width x.0 ≡ true) }
 {
@@ -174,7 +174,7 @@ fn roots_of(bytes: &[u8]) -> Result<(u16, &[u8]), usize>
 
 /// Refuses a field of this number that isn't of bytes, and a second one.
 fn once_at_most(number: u32, bytes: &[u8]) -> Result<(), usize>
-    ensures { Reads (λ right. right) result (once_at_most number bytes.now) }
+    ensures { ReadsMessage (λ right. right) result (once_at_most number bytes.now) }
 {
     let from = from_field(number, bytes)?;
     if from.is_empty() {
@@ -188,7 +188,7 @@ fn once_at_most(number: u32, bytes: &[u8]) -> Result<(), usize>
 
 /// The data hash and the axis roots in a message.
 fn both_parts(bytes: &[u8]) -> Result<Parts<'_>, usize>
-    ensures value { Reads (λ parts. extended_by parts) result (both_read (header_left bytes.now) (roots_left bytes.now)) }
+    ensures value { ReadsMessage (λ parts. extended_from parts) result (both_read (header_left bytes.now) (roots_left bytes.now)) }
     ensures size { IfOk result (λ parts. entry_size * (4 * parts.k) ≡ length parts.roots.now) }
     ensures width { IfOk result (λ parts. is_width parts.k ≡ true) }
     ensures hash { IfOk result (λ parts. length parts.data_hash.now ≡ hash_size) }
@@ -211,8 +211,8 @@ fn besides<'a>(
     other: Result<(), usize>,
 ) -> Result<Parts<'a>, usize>
     ensures value { (read : Result Extended ℕ) (right : Result ⊤ ℕ)
-        → Reads (λ x. extended_by x) parts.entry read → Reads (λ x. x) other right
-        → Reads (λ x. extended_by x) result (besides read right) }
+        → ReadsMessage (λ x. extended_from x) parts.entry read → ReadsMessage (λ x. x) other right
+        → ReadsMessage (λ x. extended_from x) result (besides read right) }
     ensures kept { IfOk result (λ found. parts.entry ≡ Ok found) }
 {
     match (parts, other) {
@@ -225,7 +225,7 @@ fn besides<'a>(
 
 /// The parts of a message; where a field is wrong, how many bytes are left from it on.
 fn parts_in(bytes: &[u8]) -> Result<Parts<'_>, usize>
-    ensures value { Reads (λ parts. extended_by parts) result (extended_left bytes.now) }
+    ensures value { ReadsMessage (λ parts. extended_from parts) result (extended_left bytes.now) }
     ensures size { IfOk result (λ parts. entry_size * (4 * parts.k) ≡ length parts.roots.now) }
     ensures width { IfOk result (λ parts. is_width parts.k ≡ true) }
     ensures hash { IfOk result (λ parts. length parts.data_hash.now ≡ hash_size) }
@@ -239,7 +239,7 @@ fn taken(alloc: Global, parts: Parts) -> Result<Extended, NoMemory>
     requires size { entry_size * (4 * parts.k) ≡ length parts.roots.now }
     requires width { is_width parts.k ≡ true }
     requires hash { length parts.data_hash.now ≡ hash_size }
-    ensures { IfOk result (λ extended. extended ≡ extended_by parts.entry) }
+    ensures { IfOk result (λ extended. extended ≡ extended_from parts.entry) }
 {
     let mut data_hash = [0; HASH_SIZE];
     data_hash.copy_from_slice(parts.data_hash);

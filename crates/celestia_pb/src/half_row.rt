@@ -3,8 +3,8 @@
 ghost use Rattle.std.specs.Prelude.{◌≡◌, ◌↔◌, ℕ, ◌+◌, ◌*◌, ◌≤◌, ◌++◌, ◌==◌, ◌&&◌, length, true, drop, Err, vec_len, vec_capacity, Ok, IfOk, IfErr, IsErrOf};
 ghost use Rattle.namespace_id.specs.Answers.{Gives, HasRoom};
 ghost use Rattle.namespace_id.specs.Cells.{is_width};
-ghost use Rattle.celestia_pb.specs.Reading.{Reads};
-ghost use Rattle.celestia_pb.specs.RowShares.{shares_in};
+ghost use Rattle.celestia_pb.specs.Reading.{ReadsMessage};
+ghost use Rattle.celestia_pb.specs.RowShares.{tagged_shares};
 ghost use Rattle.celestia_pb.specs.HalfRows.{HalfParts, IsHalf, side_number, half_row_text, side_at, half_row_left, half_row_value, HalfRowIsRead, ReadIsHalfRow, HalfRowIsCommon};
 
 use crate::entries::{number_size, part_size};
@@ -69,7 +69,7 @@ fn are_all(count: usize, rest: &[u8]) -> bool
 /// The side of the half row that a message is and the number of its shares, or how many bytes are left from the first field that
 /// is wrong on.
 fn half_row_parts(bytes: &[u8]) -> Result<(Side, usize), usize>
-    ensures value { Reads (λ x. record { side = x.0; shares = shares_in x.1 bytes.now }) result (half_row_left bytes.now) }
+    ensures value { ReadsMessage (λ x. record { side = x.0; shares = tagged_shares x.1 bytes.now }) result (half_row_left bytes.now) }
     ensures size { IfOk result (λ x. 518 * x.1 ≤ length bytes.now) }
     ensures width { IfOk result (λ x. is_width x.1 ≡ true) }
 {
@@ -87,7 +87,7 @@ fn half_row_parts(bytes: &[u8]) -> Result<(Side, usize), usize>
 fn half_row_in(alloc: Global, side: Side, count: usize, bytes: &[u8]) -> Result<HalfRow, NoMemory>
     requires size { 518 * count ≤ length bytes.now }
     requires width { is_width count ≡ true }
-    ensures { IfOk result (λ half. half ≡ record { side = side; shares = shares_in count bytes.now }) }
+    ensures { IfOk result (λ half. half ≡ record { side = side; shares = tagged_shares count bytes.now }) }
 {
     let shares = shares_in(alloc, count, bytes)?;
     Ok(HalfRow { side, shares })

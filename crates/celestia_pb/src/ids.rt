@@ -2,8 +2,8 @@
 
 ghost use Rattle.std.specs.Prelude.{◌≡◌, ◌↔◌, ℕ, ◌+◌, ◌≤◌, ◌++◌, length, vec_len, vec_capacity, Ok, Err, IsErrOf};
 ghost use Rattle.namespace_id.specs.Answers.{Gives, HasRoom};
-ghost use Rattle.celestia_pb.specs.Reading.{Reads};
-ghost use Rattle.celestia_pb.specs.Ids.{sample_id_text, namespace_id_text, behind_height, short_at, name_at, sample_id_left, namespace_id_left, sample_id_value, namespace_id_value, SampleIdIsRead, ReadIsSampleId, NamespaceIdIsRead, ReadIsNamespaceId};
+ghost use Rattle.celestia_pb.specs.Reading.{ReadsMessage};
+ghost use Rattle.celestia_pb.specs.Ids.{sample_id_text, namespace_id_text, behind_height, short_at, name_front, sample_id_left, namespace_id_left, sample_id_value, namespace_id_value, SampleIdIsRead, ReadIsSampleId, NamespaceIdIsRead, ReadIsNamespaceId};
 
 use crate::errors::PbError;
 use namespace_id::{Cell, NAMESPACE_SIZE, Namespace, append};
@@ -48,7 +48,7 @@ fn short_at(bytes: &[u8]) -> Option<(u16, &[u8])>
 
 /// A namespace at the front, and the bytes after it.
 fn name_at(bytes: &[u8]) -> Option<(Namespace, &[u8])>
-    ensures { Gives (λ x. (x.0, x.1.now)) result (name_at bytes.now) }
+    ensures { Gives (λ x. (x.0, x.1.now)) result (name_front bytes.now) }
 {
     if bytes.len() < NAMESPACE_SIZE {
         return None;
@@ -61,7 +61,7 @@ fn name_at(bytes: &[u8]) -> Option<(Namespace, &[u8])>
 
 /// The cell that a SampleID of this height names; where a number is wrong, how many bytes are left from it on.
 fn sample_id_in(height: u64, bytes: &[u8]) -> Result<Cell, usize>
-    ensures { Reads (λ cell. cell) result (sample_id_left height bytes.now) }
+    ensures { ReadsMessage (λ cell. cell) result (sample_id_left height bytes.now) }
 {
     let Some(behind) = behind_height(height, bytes) else {
         return Err(bytes.len());
@@ -80,7 +80,7 @@ fn sample_id_in(height: u64, bytes: &[u8]) -> Result<Cell, usize>
 
 /// The namespace that a NamespaceDataID of this height names; where a number is wrong, how many bytes are left from it on.
 fn namespace_id_in(height: u64, bytes: &[u8]) -> Result<Namespace, usize>
-    ensures { Reads (λ name. name) result (namespace_id_left height bytes.now) }
+    ensures { ReadsMessage (λ name. name) result (namespace_id_left height bytes.now) }
 {
     let Some(behind) = behind_height(height, bytes) else {
         return Err(bytes.len());

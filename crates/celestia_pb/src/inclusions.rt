@@ -3,10 +3,10 @@
 ghost use Rattle.std.specs.Prelude.{◌≡◌, ◌==◌, ◌+◌, ◌*◌, ◌≤◌, ◌<◌, ◌^◌, ◌++◌, length, vec_len, vec_capacity, IfOk, IfErr};
 ghost use Rattle.namespace_id.specs.Answers.{HasRoom};
 ghost use Rattle.namespace_id.specs.Sizes.{most_depth};
-ghost use Rattle.celestia_pb.specs.Reading.{Reads};
+ghost use Rattle.celestia_pb.specs.Reading.{ReadsMessage};
 ghost use Rattle.celestia_pb.specs.Digests.{digests_in, entry_size};
 ghost use Rattle.celestia_pb.specs.Messages.{number_left};
-ghost use Rattle.celestia_pb.specs.Inclusions.{is_start, first_place, is_stop, is_flag, is_whole, inclusion_text, inclusion_left};
+ghost use Rattle.celestia_pb.specs.Inclusions.{is_place_stated, place_stated, is_stop, is_flag, is_whole, inclusion_text, inclusion_left};
 
 use crate::digests::{ENTRY_SIZE, count_digests, entry_digest, put_digests};
 use crate::entries::number_size;
@@ -27,7 +27,7 @@ const FLAG: u8 = 5;
 
 /// Whether this is a first place: any, or the one that is wanted, or none.
 pub(crate) fn is_start(wanted: Option<u64>, start: u64) -> bool
-    ensures { result ≡ is_start wanted start }
+    ensures { result ≡ is_place_stated wanted start }
 {
     match wanted {
         None => true,
@@ -37,7 +37,7 @@ pub(crate) fn is_start(wanted: Option<u64>, start: u64) -> bool
 
 /// The place that is the first one.
 pub(crate) fn first_place(wanted: Option<u64>, start: u64) -> u64
-    ensures { result ≡ first_place wanted start }
+    ensures { result ≡ place_stated wanted start }
 {
     match wanted {
         None => start,
@@ -54,7 +54,7 @@ pub(crate) fn is_sum(stop: u64, place: u64, count: u64) -> bool
 
 /// The first place at the front, and the bytes after it; where it is wrong, how many bytes are left.
 pub(crate) fn start_at(wanted: Option<u64>, bytes: &[u8]) -> Result<(u64, &[u8]), usize>
-    ensures value { Reads (λ x. (x.0, x.1.now)) result (number_left (is_start wanted) 1 bytes.now) }
+    ensures value { ReadsMessage (λ x. (x.0, x.1.now)) result (number_left (is_place_stated wanted) 1 bytes.now) }
     ensures shorter { IfOk result (λ x. length x.1.now ≤ length bytes.now) }
     ensures within { IfErr result (λ left. left ≤ length bytes.now) }
 {
@@ -67,7 +67,7 @@ pub(crate) fn start_at(wanted: Option<u64>, bytes: &[u8]) -> Result<(u64, &[u8])
 
 /// The place behind the last at the front, and the bytes after it; where it is wrong, how many bytes are left.
 pub(crate) fn stop_at(place: u64, count: u64, bytes: &[u8]) -> Result<(u64, &[u8]), usize>
-    ensures value { Reads (λ x. (x.0, x.1.now)) result (number_left (is_stop place count) 2 bytes.now) }
+    ensures value { ReadsMessage (λ x. (x.0, x.1.now)) result (number_left (is_stop place count) 2 bytes.now) }
     ensures shorter { IfOk result (λ x. length x.1.now ≤ length bytes.now) }
     ensures within { IfErr result (λ left. left ≤ length bytes.now) }
 {
@@ -80,7 +80,7 @@ pub(crate) fn stop_at(place: u64, count: u64, bytes: &[u8]) -> Result<(u64, &[u8
 
 /// The flag at the front, and the bytes after it; where it is wrong, how many bytes are left.
 pub(crate) fn flag_at(bytes: &[u8]) -> Result<(u64, &[u8]), usize>
-    ensures value { Reads (λ x. (x.0, x.1.now)) result (number_left is_flag 5 bytes.now) }
+    ensures value { ReadsMessage (λ x. (x.0, x.1.now)) result (number_left is_flag 5 bytes.now) }
     ensures shorter { IfOk result (λ x. length x.1.now ≤ length bytes.now) }
     ensures within { IfErr result (λ left. left ≤ length bytes.now) }
 {
@@ -117,7 +117,7 @@ pub(crate) fn inclusion_at(
     most: usize,
     bytes: &[u8],
 ) -> Result<(u64, usize, &[u8]), usize>
-    ensures value { Reads (λ x. (x.0, digests_in x.1 x.2.now)) result (inclusion_left wanted count most bytes.now) }
+    ensures value { ReadsMessage (λ x. (x.0, digests_in x.1 x.2.now)) result (inclusion_left wanted count most bytes.now) }
     ensures size { IfOk result (λ x. entry_size * x.1 ≤ length x.2.now) }
     ensures few { IfOk result (λ x. x.1 ≤ most) }
     ensures within { IfErr result (λ left. left ≤ length bytes.now) }

@@ -3,7 +3,7 @@
 ghost use Rattle.std.specs.Prelude.{◌≡◌, ◌+◌, ◌≤◌, ◌<◌, length, IfOk, IfErr, IfSome};
 ghost use Rattle.namespace_id.specs.Answers.{Gives};
 ghost use Rattle.proto_fields.specs.Canonical.{canonical_number, canonical_part};
-ghost use Rattle.celestia_pb.specs.Reading.{Reads, or_left};
+ghost use Rattle.celestia_pb.specs.Reading.{ReadsMessage, or_left};
 
 use namespace_id::bytes_law;
 use proto_fields::{canonical_number, canonical_part};
@@ -12,7 +12,7 @@ use proto_fields::{canonical_number, canonical_part};
 /// wrong, how many bytes are left from it on.
 pub(crate) fn number_at(number: u8, bytes: &[u8]) -> Result<(u64, &[u8]), usize>
     requires { number < 16 }
-    ensures value { Reads (λ x. (x.0, x.1.now)) result (or_left bytes.now (canonical_number number bytes.now)) }
+    ensures value { ReadsMessage (λ x. (x.0, x.1.now)) result (or_left bytes.now (canonical_number number bytes.now)) }
     ensures shorter { IfOk result (λ x. length x.1.now ≤ length bytes.now) }
     ensures within { IfErr result (λ left. left ≤ length bytes.now) }
 {

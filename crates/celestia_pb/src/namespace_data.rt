@@ -5,10 +5,10 @@ ghost use Rattle.std.specs.List.{list_all};
 ghost use Rattle.namespace_id.specs.Answers.{Gives, HasRoom, refusal_in};
 ghost use Rattle.namespace_id.specs.Sizes.{greatest_width};
 ghost use Rattle.proto_fields.specs.Canonical.{shortest_at, part_at};
-ghost use Rattle.celestia_pb.specs.Reading.{Reads};
+ghost use Rattle.celestia_pb.specs.Reading.{ReadsMessage};
 ghost use Rattle.celestia_pb.specs.RowShares.{share_entry_size};
 ghost use Rattle.celestia_pb.specs.RowParts.{entry_by};
-ghost use Rattle.celestia_pb.specs.NamespaceData.{entry_text, namespace_data_text, has_part, has_stream, entry_at, entries_left, namespace_data_value, NamespaceDataIsRead, ReadIsNamespaceData};
+ghost use Rattle.celestia_pb.specs.NamespaceData.{ns_entry_text, namespace_data_text, has_part, has_stream, entry_at, entries_left, namespace_data_value, NamespaceDataIsRead, ReadIsNamespaceData};
 
 use crate::errors::PbError;
 use crate::row_data::{RowParts, entry_of, put_row_data, row_at, row_data_size};
@@ -47,7 +47,7 @@ fn part_at(bytes: &[u8]) -> Option<(&[u8], &[u8])>
 /// What the message in front is made of, its bytes, and the bytes after it; where a field is wrong, how many bytes are left from it
 /// on.
 fn entry_parts(bytes: &[u8]) -> Result<(RowParts, &[u8], &[u8]), usize>
-    ensures value { (row : ℕ) → Reads (λ x. (entry_by row x.0 x.1.now, x.2.now)) result (entry_at row bytes.now) }
+    ensures value { (row : ℕ) → ReadsMessage (λ x. (entry_by row x.0 x.1.now, x.2.now)) result (entry_at row bytes.now) }
     ensures size { IfOk result (λ x. share_entry_size * x.0.count ≤ length x.1.now) }
 {
     let Some((part, rest)) = part_at(bytes) else {
@@ -161,9 +161,9 @@ pub fn namespace_data_size(answer: &NsAnswer) -> Option<usize>
 /// Appends the message of an entry that has one, behind its length, for which there is capacity.
 fn put_entry(entry: &NsEntry, out: &mut Vec<u8>)
     requires has { has_part entry.now ≡ true }
-    requires room { HasRoom out.old (length (entry_text entry.now)) }
-    ensures appended { out.new.items ≡ out.old.items ++ entry_text entry.now }
-    ensures len { vec_len out.new ≡ vec_len out.old + length (entry_text entry.now) }
+    requires room { HasRoom out.old (length (ns_entry_text entry.now)) }
+    ensures appended { out.new.items ≡ out.old.items ++ ns_entry_text entry.now }
+    ensures len { vec_len out.new ≡ vec_len out.old + length (ns_entry_text entry.now) }
     ensures capacity { vec_capacity out.old ≤ vec_capacity out.new }
 {
     let size = row_data_size(entry).unwrap();

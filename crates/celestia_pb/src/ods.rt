@@ -4,7 +4,7 @@ ghost use Rattle.std.specs.Prelude.{◌≡◌, ◌↔◌, ℕ, ◌+◌, ◌*◌,
 ghost use Rattle.namespace_id.specs.Answers.{Gives, HasRoom};
 ghost use Rattle.namespace_id.specs.Cells.{is_width};
 ghost use Rattle.namespace_id.specs.Sizes.{share_size, most_shares};
-ghost use Rattle.celestia_pb.specs.Reading.{Reads};
+ghost use Rattle.celestia_pb.specs.Reading.{ReadsMessage};
 ghost use Rattle.celestia_pb.specs.ShareLists.{shares_behind};
 ghost use Rattle.celestia_pb.specs.Ods.{ods_text, least_width, square_width, ods_value, OdsIsRead, ReadIsOds};
 
@@ -43,7 +43,7 @@ fn square_width(count: usize) -> Option<u16>
 
 /// The width of the square that bytes are, or the offset of what is wrong.
 fn ods_width(bytes: &[u8]) -> Result<u16, usize>
-    ensures value { Reads (λ k. record { k = k; shares = shares_behind 0 (k * k) bytes.now }) result (ods_value bytes.now) }
+    ensures value { ReadsMessage (λ k. record { k = k; shares = shares_behind 0 (k * k) bytes.now }) result (ods_value bytes.now) }
     ensures width { IfOk result (λ k. is_width k ≡ true) }
     ensures size { IfOk result (λ k. share_size * (k * k) ≡ length bytes.now) }
 {

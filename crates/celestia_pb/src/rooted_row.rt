@@ -5,10 +5,10 @@ ghost use Rattle.namespace_id.specs.Answers.{HasRoom};
 ghost use Rattle.namespace_id.specs.Cells.{is_width};
 ghost use Rattle.data_header.specs.Paths.{most_hashes};
 ghost use Rattle.proto_fields.specs.Spelled.{bytes_field};
-ghost use Rattle.celestia_pb.specs.Reading.{Reads};
-ghost use Rattle.celestia_pb.specs.Messages.{number_left, message_at};
-ghost use Rattle.celestia_pb.specs.Digests.{digest_at};
-ghost use Rattle.celestia_pb.specs.Inclusions.{is_start};
+ghost use Rattle.celestia_pb.specs.Reading.{ReadsMessage};
+ghost use Rattle.celestia_pb.specs.Messages.{number_left, optional_message};
+ghost use Rattle.celestia_pb.specs.Digests.{digest_field};
+ghost use Rattle.celestia_pb.specs.Inclusions.{is_place_stated};
 ghost use Rattle.celestia_pb.specs.Aunts.{optional_at};
 ghost use Rattle.celestia_pb.specs.RootedRows.{has_column, has_names, is_total, is_row, may_total, may_row, is_leaf, leaf_at, row_path_end, row_path_left, row_in, rooted_end, rooted_row_left};
 ghost use Rattle.celestia_pb.specs.ShareProofs.{path_part, row_part};
@@ -120,7 +120,7 @@ fn is_row(told: Option<Told>, total: u64, row: u64) -> bool
 
 /// The number of roots at the front, and the bytes after it; where it is wrong, how many bytes are left.
 fn total_at(told: Option<Told>, bytes: &[u8]) -> Result<(u64, &[u8]), usize>
-    ensures value { Reads (λ x. (x.0, x.1.now)) result (number_left (may_total told) 1 bytes.now) }
+    ensures value { ReadsMessage (λ x. (x.0, x.1.now)) result (number_left (may_total told) 1 bytes.now) }
     ensures shorter { IfOk result (λ x. length x.1.now ≤ length bytes.now) }
     ensures within { IfErr result (λ left. left ≤ length bytes.now) }
 {
@@ -133,7 +133,7 @@ fn total_at(told: Option<Told>, bytes: &[u8]) -> Result<(u64, &[u8]), usize>
 
 /// The row at the front, and the bytes after it; where it is wrong, how many bytes are left.
 fn row_at(told: Option<Told>, total: u64, bytes: &[u8]) -> Result<(u64, &[u8]), usize>
-    ensures value { Reads (λ x. (x.0, x.1.now)) result (number_left (may_row told total) 2 bytes.now) }
+    ensures value { ReadsMessage (λ x. (x.0, x.1.now)) result (number_left (may_row told total) 2 bytes.now) }
     ensures shorter { IfOk result (λ x. length x.1.now ≤ length bytes.now) }
     ensures within { IfErr result (λ left. left ≤ length bytes.now) }
 {
@@ -157,7 +157,7 @@ fn is_leaf(root: Option<Digest>, bytes: &[u8]) -> bool
 
 /// Whether the hash of the leaf is at the front, and the bytes after it; where another one is, how many bytes are left.
 fn leaf_at(root: Option<Digest>, bytes: &[u8]) -> Result<(Option<bool>, &[u8]), usize>
-    ensures value { Reads (λ x. (x.0, x.1.now)) result (optional_at (leaf_at root) 3 bytes.now) }
+    ensures value { ReadsMessage (λ x. (x.0, x.1.now)) result (optional_at (leaf_at root) 3 bytes.now) }
     ensures shorter { IfOk result (λ x. length x.1.now ≤ length bytes.now) }
     ensures within { IfErr result (λ left. left ≤ length bytes.now) }
 {
@@ -184,7 +184,7 @@ fn is_path(told: Option<Told>, total: u64, row: u64, rest: &[u8]) -> bool
 /// The path that a message is, by what is told and by the root in front of it; where a field is wrong, how many bytes are left
 /// from it on.
 fn row_path_in(told: Option<Told>, root: Option<Digest>, bytes: &[u8]) -> Result<RowPath, usize>
-    ensures value { Reads (λ path. path) result (row_path_left told root bytes.now) }
+    ensures value { ReadsMessage (λ path. path) result (row_path_left told root bytes.now) }
     ensures within { IfErr result (λ left. left ≤ length bytes.now) }
 {
     let (total, behind) = total_at(told, bytes)?;
@@ -207,7 +207,7 @@ fn path_at(
     root: Option<Digest>,
     bytes: &[u8],
 ) -> Result<(Option<RowPath>, &[u8]), usize>
-    ensures value { Reads (λ x. (x.0, x.1.now)) result (message_at (λ rest part. row_path_left told root part) 2 bytes.now) }
+    ensures value { ReadsMessage (λ x. (x.0, x.1.now)) result (optional_message (λ rest part. row_path_left told root part) 2 bytes.now) }
     ensures shorter { IfOk result (λ x. length x.1.now ≤ length bytes.now) }
     ensures within { IfErr result (λ left. left ≤ length bytes.now) }
 {
@@ -225,7 +225,7 @@ fn path_at(
 
 /// The root at the front, if one is there, and the bytes after it; where it is wrong, how many bytes are left.
 fn root_at(bytes: &[u8]) -> Result<(Option<Digest>, &[u8]), usize>
-    ensures value { Reads (λ x. (x.0, x.1.now)) result (optional_at (digest_at 1) 1 bytes.now) }
+    ensures value { ReadsMessage (λ x. (x.0, x.1.now)) result (optional_at (digest_field 1) 1 bytes.now) }
     ensures shorter { IfOk result (λ x. length x.1.now ≤ length bytes.now) }
     ensures within { IfErr result (λ left. left ≤ length bytes.now) }
 {
@@ -250,7 +250,7 @@ pub(crate) fn wanted_at(
     bytes: &[u8],
 ) -> Result<(u64, &[u8]), usize>
     requires { number < 16 }
-    ensures value { Reads (λ x. (x.0, x.1.now)) result (number_left (is_start wanted) number bytes.now) }
+    ensures value { ReadsMessage (λ x. (x.0, x.1.now)) result (number_left (is_place_stated wanted) number bytes.now) }
     ensures shorter { IfOk result (λ x. length x.1.now ≤ length bytes.now) }
     ensures within { IfErr result (λ left. left ≤ length bytes.now) }
 {
@@ -279,7 +279,7 @@ fn rooted_end(
     last: u64,
     rest: &[u8],
 ) -> Result<RootedRow, usize>
-    ensures value { Reads (λ row. row) result (rooted_end root path first last rest.now) }
+    ensures value { ReadsMessage (λ row. row) result (rooted_end root path first last rest.now) }
     ensures within { IfErr result (λ left. left ≤ length rest.now) }
 {
     let (Some(root), Some(path)) = (root, path) else {
@@ -294,7 +294,7 @@ fn rooted_end(
 
 /// The row that a message is, by what is told; where a field is wrong, how many bytes are left from it on.
 fn rooted_row_in(told: Option<Told>, bytes: &[u8]) -> Result<RootedRow, usize>
-    ensures value { Reads (λ row. row) result (rooted_row_left told bytes.now) }
+    ensures value { ReadsMessage (λ row. row) result (rooted_row_left told bytes.now) }
     ensures within { IfErr result (λ left. left ≤ length bytes.now) }
 {
     let (root, behind) = root_at(bytes)?;
@@ -313,7 +313,7 @@ pub(crate) fn rooted_row_at(
     bytes: &[u8],
 ) -> Result<(Option<RootedRow>, &[u8]), usize>
     requires { number < 16 }
-    ensures value { Reads (λ x. (x.0, x.1.now)) result (message_at (λ rest part. rooted_row_left told part) number bytes.now) }
+    ensures value { ReadsMessage (λ x. (x.0, x.1.now)) result (optional_message (λ rest part. rooted_row_left told part) number bytes.now) }
 {
     if !begins_part(number, bytes) {
         return Ok((None, bytes));

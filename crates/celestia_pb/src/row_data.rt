@@ -3,12 +3,12 @@
 ghost use Rattle.std.specs.Prelude.{◌≡◌, ◌↔◌, ℕ, ◌+◌, ◌*◌, ◌≤◌, ◌^◌, ◌++◌, length, vec_len, vec_capacity, true, false, None, option_map, Ok, Err, IfOk, IfErr, IfSome, IsErrOf};
 ghost use Rattle.namespace_id.specs.Answers.{HasRoom};
 ghost use Rattle.namespace_id.specs.Sizes.{greatest_width};
-ghost use Rattle.celestia_pb.specs.Reading.{Reads};
-ghost use Rattle.celestia_pb.specs.Messages.{message_at};
+ghost use Rattle.celestia_pb.specs.Reading.{ReadsMessage};
+ghost use Rattle.celestia_pb.specs.Messages.{optional_message};
 ghost use Rattle.celestia_pb.specs.RowShares.{share_entry_size};
 ghost use Rattle.celestia_pb.specs.RowProofs.{most_nodes, row_proof_left};
-ghost use Rattle.celestia_pb.specs.RowData.{has_message, row_text, found_text, row_left, row_value};
-ghost use Rattle.celestia_pb.specs.RowParts.{parts_of, entry_by};
+ghost use Rattle.celestia_pb.specs.RowData.{found_has_message, row_text, found_message, row_left, row_value};
+ghost use Rattle.celestia_pb.specs.RowParts.{proof_parts, entry_by};
 ghost use Rattle.celestia_pb.specs.RowDataLaws.{RowIsRead, ReadIsRow, RowIsCommon, RowProofIsCommon};
 
 use crate::entries::{part_size, put_front};
@@ -34,8 +34,8 @@ pub(crate) struct RowParts {
 /// The proof of so many shares in a field that may be at the front, and the bytes after it; where it is wrong, how many bytes are
 /// left.
 fn proof_field(count: usize, bytes: &[u8]) -> Result<(Option<RowProof>, &[u8]), usize>
-    ensures value { Reads (λ x. (option_map parts_of x.0, x.1.now))
-        result (message_at (λ rest part. row_proof_left count part) 2 bytes.now) }
+    ensures value { ReadsMessage (λ x. (option_map proof_parts x.0, x.1.now))
+        result (optional_message (λ rest part. row_proof_left count part) 2 bytes.now) }
     ensures shorter { IfOk result (λ x. length x.1.now ≤ length bytes.now) }
     ensures within { IfErr result (λ left. left ≤ length bytes.now) }
 {
@@ -53,7 +53,7 @@ fn proof_field(count: usize, bytes: &[u8]) -> Result<(Option<RowProof>, &[u8]), 
 
 /// What the message of a row is made of; where a field is wrong, how many bytes are left from it on.
 pub(crate) fn row_at(bytes: &[u8]) -> Result<RowParts, usize>
-    ensures value { (row : ℕ) → Reads (λ parts. entry_by row parts bytes.now) result (row_left row bytes.now) }
+    ensures value { (row : ℕ) → ReadsMessage (λ parts. entry_by row parts bytes.now) result (row_left row bytes.now) }
     ensures size { IfOk result (λ parts. share_entry_size * parts.count ≤ length bytes.now) }
     ensures within { IfErr result (λ left. left ≤ length bytes.now) }
 {
@@ -120,7 +120,7 @@ pub fn read_row_data(alloc: Global, row: u16, bytes: &[u8]) -> Result<NsEntry, P
 
 /// Whether what is found has a message.
 fn has_message(found: &Found) -> bool
-    ensures { result ≡ has_message found.now }
+    ensures { result ≡ found_has_message found.now }
 {
     match found {
         Found::Range { shares, .. } => {
@@ -169,8 +169,8 @@ fn put_row(start: u16, shares: &[Share], nodes: &[Digest], hashes: &[Digest], ou
 ///
 /// CIP-19, "RowNamespaceData"; protobuf, "Encoding".
 pub fn row_data_size(entry: &NsEntry) -> Option<usize>
-    ensures none { (result ≡ None) ↔ (has_message entry.now.found ≡ false) }
-    ensures size { IfSome result (λ size. size ≡ length (found_text entry.now.found)) }
+    ensures none { (result ≡ None) ↔ (found_has_message entry.now.found ≡ false) }
+    ensures size { IfSome result (λ size. size ≡ length (found_message entry.now.found)) }
     ensures few { IfSome result (λ size. size ≤ 2 ^ 20) }
 {
     if !has_message(&entry.found) {
@@ -192,10 +192,10 @@ pub fn row_data_size(entry: &NsEntry) -> Option<usize>
 ///
 /// CIP-19, "RowNamespaceData"; protobuf, "Encoding".
 pub fn put_row_data(entry: &NsEntry, out: &mut Vec<u8>)
-    requires has { has_message entry.now.found ≡ true }
-    requires room { HasRoom out.old (length (found_text entry.now.found)) }
-    ensures appended { out.new.items ≡ out.old.items ++ found_text entry.now.found }
-    ensures len { vec_len out.new ≡ vec_len out.old + length (found_text entry.now.found) }
+    requires has { found_has_message entry.now.found ≡ true }
+    requires room { HasRoom out.old (length (found_message entry.now.found)) }
+    ensures appended { out.new.items ≡ out.old.items ++ found_message entry.now.found }
+    ensures len { vec_len out.new ≡ vec_len out.old + length (found_message entry.now.found) }
     ensures capacity { vec_capacity out.old ≤ vec_capacity out.new }
 {
     match &entry.found {

@@ -2,11 +2,11 @@
 
 ghost use Rattle.std.specs.Prelude.{◌≡◌, ◌+◌, ◌*◌, ◌≤◌, ◌<◌, ◌^◌, ◌++◌, length, vec_len, vec_capacity, IfOk, IfErr};
 ghost use Rattle.namespace_id.specs.Answers.{HasRoom};
-ghost use Rattle.celestia_pb.specs.Reading.{Reads};
+ghost use Rattle.celestia_pb.specs.Reading.{ReadsMessage};
 ghost use Rattle.celestia_pb.specs.Digests.{digests_in, entry_size};
 ghost use Rattle.celestia_pb.specs.Messages.{number_left};
-ghost use Rattle.celestia_pb.specs.RowProofs.{leaf_count, hash_count, most_nodes, row_proof_text, is_short, is_complete, row_proof_left};
-ghost use Rattle.celestia_pb.specs.RowParts.{hashes_of, parts_of};
+ghost use Rattle.celestia_pb.specs.RowProofs.{leaf_count, hash_count, most_nodes, row_proof_text, is_short, has_all_parts, row_proof_left};
+ghost use Rattle.celestia_pb.specs.RowParts.{hashes_of, proof_parts};
 
 use crate::digests::{ENTRY_SIZE, count_digests, entry_digest, put_digests};
 use crate::entries::number_size;
@@ -56,7 +56,7 @@ fn hash_count(count: usize) -> usize
 
 /// The first place at the front, and the bytes after it; where it is wrong, how many bytes are left.
 fn short_at(bytes: &[u8]) -> Result<(u16, &[u8]), usize>
-    ensures value { Reads (λ x. (x.0, x.1.now)) result (number_left is_short 1 bytes.now) }
+    ensures value { ReadsMessage (λ x. (x.0, x.1.now)) result (number_left is_short 1 bytes.now) }
     ensures shorter { IfOk result (λ x. length x.1.now ≤ length bytes.now) }
     ensures within { IfErr result (λ left. left ≤ length bytes.now) }
 {
@@ -78,7 +78,7 @@ struct Numbers {
 
 /// Whether these are the numbers of a proof of so many shares, and nothing is left.
 fn is_complete(count: usize, numbers: Numbers, rest: &[u8]) -> bool
-    ensures { result ≡ is_complete count numbers.start numbers.stop numbers.hashes numbers.flag (length rest.now) }
+    ensures { result ≡ has_all_parts count numbers.start numbers.stop numbers.hashes numbers.flag (length rest.now) }
 {
     rest.is_empty()
         && is_sum(numbers.stop, numbers.start, leaf_count(count))
@@ -116,7 +116,7 @@ fn hash_in(count: usize, bytes: &[u8]) -> Option<Digest>
 
 /// The proof of so many shares that a message is; where a field is wrong, how many bytes are left from it on.
 pub(crate) fn row_proof_in(count: usize, bytes: &[u8]) -> Result<RowProof, usize>
-    ensures value { Reads parts_of result (row_proof_left count bytes.now) }
+    ensures value { ReadsMessage proof_parts result (row_proof_left count bytes.now) }
     ensures within { IfErr result (λ left. left ≤ length bytes.now) }
 {
     let (start, behind) = short_at(bytes)?;

@@ -3,8 +3,8 @@
 ghost use Rattle.std.specs.Prelude.{◌≡◌, ◌+◌, ◌*◌, ◌≤◌, ◌++◌, length, vec_len, vec_capacity, IfOk, IfErr};
 ghost use Rattle.namespace_id.specs.Answers.{HasRoom};
 ghost use Rattle.namespace_id.specs.Sizes.{greatest_width};
-ghost use Rattle.celestia_pb.specs.Reading.{Reads};
-ghost use Rattle.celestia_pb.specs.RowShares.{shares_text, shares_at, share_entry_size, shares_in};
+ghost use Rattle.celestia_pb.specs.Reading.{ReadsMessage};
+ghost use Rattle.celestia_pb.specs.RowShares.{shares_text, shares_at, share_entry_size, tagged_shares};
 
 use crate::sample::{put_share, share_field};
 use crate::share_lists::shares_behind;
@@ -23,7 +23,7 @@ pub(crate) const MOST_SHARES: usize = GREATEST_WIDTH as usize;
 /// How many shares are at the front, at most so many as a row of the widest square has, and the bytes after them; where one of them
 /// is wrong, how many bytes are left from the field on that is.
 pub(crate) fn count_shares(bytes: &[u8]) -> Result<(usize, &[u8]), usize>
-    ensures value { Reads (λ x. (shares_in x.0 bytes.now, x.1.now)) result (shares_at greatest_width bytes.now) }
+    ensures value { ReadsMessage (λ x. (tagged_shares x.0 bytes.now, x.1.now)) result (shares_at greatest_width bytes.now) }
     ensures size { IfOk result (λ x. share_entry_size * x.0 + length x.1.now ≡ length bytes.now) }
     ensures few { IfOk result (λ x. x.0 ≤ greatest_width) }
     ensures within { IfErr result (λ left. left ≤ length bytes.now) }
@@ -45,7 +45,7 @@ pub(crate) fn count_shares(bytes: &[u8]) -> Result<(usize, &[u8]), usize>
 /// So many shares, each behind its tags and lengths. The one refusal is that it is out of memory.
 pub(crate) fn shares_in(alloc: Global, count: usize, bytes: &[u8]) -> Result<Vec<Share>, NoMemory>
     requires { share_entry_size * count ≤ length bytes.now }
-    ensures value { IfOk result (λ shares. shares.items ≡ shares_in count bytes.now) }
+    ensures value { IfOk result (λ shares. shares.items ≡ tagged_shares count bytes.now) }
     ensures len { IfOk result (λ shares. vec_len shares ≡ count) }
 {
     shares_behind(alloc, FRONT_SIZE, count, bytes)

@@ -3,10 +3,10 @@
 ghost use Rattle.std.specs.Prelude.{◌≡◌, ◌↔◌, ℕ, ◌+◌, ◌≤◌, ◌++◌, length, vec_len, vec_capacity, Option, Ok, Err, IfOk, IfErr, IfSome, IsErrOf};
 ghost use Rattle.namespace_id.specs.Answers.{Gives, HasRoom};
 ghost use Rattle.proto_fields.specs.Spelled.{bytes_field};
-ghost use Rattle.celestia_pb.specs.Reading.{Reads};
-ghost use Rattle.celestia_pb.specs.Messages.{message_at};
+ghost use Rattle.celestia_pb.specs.Reading.{ReadsMessage};
+ghost use Rattle.celestia_pb.specs.Messages.{optional_message};
 ghost use Rattle.celestia_pb.specs.Inclusions.{inclusion_text};
-ghost use Rattle.celestia_pb.specs.Samples.{share_text, axis_number, place_on, sample_text, place_wanted, share_at, share_left, axis_at, path_left, sample_left, sample_value};
+ghost use Rattle.celestia_pb.specs.Samples.{share_message, axis_number, place_on, sample_text, place_wanted, share_front, share_left, axis_at, path_left, sample_left, sample_value};
 ghost use Rattle.celestia_pb.specs.SampleLaws.{SampleIsRead, ReadIsSample, SampleIsCommon, ShareIsCommon, ProofIsCommon};
 
 use crate::entries::{number_size, part_size, put_entry, put_front};
@@ -40,7 +40,7 @@ pub struct Sample {
 
 /// The share in a message at the front, and the bytes after it.
 pub(crate) fn share_at(bytes: &[u8]) -> Option<(Share, &[u8])>
-    ensures value { Gives (λ x. (x.0, x.1.now)) result (share_at bytes.now) }
+    ensures value { Gives (λ x. (x.0, x.1.now)) result (share_front bytes.now) }
     ensures shorter { IfSome result (λ x. length x.1.now ≤ length bytes.now) }
 {
     let (data, rest) = part_at(DATA, bytes)?;
@@ -54,7 +54,7 @@ pub(crate) fn share_at(bytes: &[u8]) -> Option<(Share, &[u8])>
 
 /// The share that a message is; where a field is wrong, how many bytes are left from it on.
 fn share_in(bytes: &[u8]) -> Result<Share, usize>
-    ensures value { Reads (λ share. share) result (share_left bytes.now) }
+    ensures value { ReadsMessage (λ share. share) result (share_left bytes.now) }
     ensures within { IfErr result (λ left. left ≤ length bytes.now) }
 {
     let Some((share, rest)) = share_at(bytes) else {
@@ -68,7 +68,7 @@ fn share_in(bytes: &[u8]) -> Result<Share, usize>
 
 /// The share in a field that may be at the front, and the bytes after it; where it is wrong, how many bytes are left.
 pub(crate) fn share_field(bytes: &[u8]) -> Result<(Option<Share>, &[u8]), usize>
-    ensures value { Reads (λ x. (x.0, x.1.now)) result (message_at (λ rest part. share_left part) 1 bytes.now) }
+    ensures value { ReadsMessage (λ x. (x.0, x.1.now)) result (optional_message (λ rest part. share_left part) 1 bytes.now) }
     ensures within { IfErr result (λ left. left ≤ length bytes.now) }
 {
     if !begins_part(SHARE, bytes) {
@@ -115,7 +115,7 @@ fn place_wanted(cell: Cell, rest: &[u8]) -> Option<u64>
 
 /// The nodes of the proof that a message is, whose axis follows; where a field is wrong, how many bytes are left from it on.
 fn path_message(cell: Cell, rest: &[u8], bytes: &[u8]) -> Result<Path, usize>
-    ensures value { Reads (λ path. path) result (path_left cell rest.now bytes.now) }
+    ensures value { ReadsMessage (λ path. path) result (path_left cell rest.now bytes.now) }
     ensures within { IfErr result (λ left. left ≤ length bytes.now) }
 {
     let wanted = place_wanted(cell, rest);
@@ -126,7 +126,7 @@ fn path_message(cell: Cell, rest: &[u8], bytes: &[u8]) -> Result<Path, usize>
 /// The nodes of the proof in a field that may be at the front, and the bytes after it; where it is wrong, how many bytes are
 /// left.
 fn path_field(cell: Cell, bytes: &[u8]) -> Result<(Option<Path>, &[u8]), usize>
-    ensures { Reads (λ x. (x.0, x.1.now)) result (message_at (path_left cell) 2 bytes.now) }
+    ensures { ReadsMessage (λ x. (x.0, x.1.now)) result (optional_message (path_left cell) 2 bytes.now) }
 {
     if !begins_part(PROOF, bytes) {
         return Ok((None, bytes));
@@ -142,7 +142,7 @@ fn path_field(cell: Cell, bytes: &[u8]) -> Result<(Option<Path>, &[u8]), usize>
 
 /// The sample that a message is; where a field is wrong, how many bytes are left from it on.
 fn sample_in(cell: Cell, bytes: &[u8]) -> Result<Sample, usize>
-    ensures { Reads (λ sample. sample) result (sample_left cell bytes.now) }
+    ensures { ReadsMessage (λ sample. sample) result (sample_left cell bytes.now) }
 {
     let (share, behind) = share_field(bytes)?;
     let (path, after) = path_field(cell, behind)?;
@@ -191,9 +191,9 @@ pub(crate) fn axis_number(axis: Axis) -> u64
 
 /// Appends the field of a share, for which there is capacity.
 pub(crate) fn put_share(share: &Share, out: &mut Vec<u8>)
-    requires room { HasRoom out.old (length (bytes_field 1 (share_text share.now))) }
-    ensures appended { out.new.items ≡ out.old.items ++ bytes_field 1 (share_text share.now) }
-    ensures len { vec_len out.new ≡ vec_len out.old + length (bytes_field 1 (share_text share.now)) }
+    requires room { HasRoom out.old (length (bytes_field 1 (share_message share.now))) }
+    ensures appended { out.new.items ≡ out.old.items ++ bytes_field 1 (share_message share.now) }
+    ensures len { vec_len out.new ≡ vec_len out.old + length (bytes_field 1 (share_message share.now)) }
     ensures capacity { vec_capacity out.old ≤ vec_capacity out.new }
 {
     put_front(SHARE, part_size(DATA, SHARE_SIZE), out);

@@ -3,8 +3,8 @@
 ghost use Rattle.std.specs.Prelude.{◌≡◌, ◌==◌, ◌&&◌, ◌+◌, ◌≤◌, ◌<◌, ◌++◌, length, vec_len, vec_capacity, IfOk, IfErr};
 ghost use Rattle.namespace_id.specs.Answers.{HasRoom};
 ghost use Rattle.namespace_id.specs.Sizes.{most_depth};
-ghost use Rattle.celestia_pb.specs.Reading.{Reads};
-ghost use Rattle.celestia_pb.specs.Messages.{number_left, message_at};
+ghost use Rattle.celestia_pb.specs.Reading.{ReadsMessage};
+ghost use Rattle.celestia_pb.specs.Messages.{number_left, optional_message};
 ghost use Rattle.celestia_pb.specs.SharePaths.{share_path_text, is_column, share_path_left};
 
 use crate::digests::{ENTRY_SIZE, count_digests, put_digests};
@@ -34,7 +34,7 @@ pub(crate) struct SharePath {
 
 /// The column at the front, and the bytes after it; where it is wrong, how many bytes are left.
 fn column_at(bytes: &[u8]) -> Result<(u16, &[u8]), usize>
-    ensures value { Reads (λ x. (x.0, x.1.now)) result (number_left is_column 1 bytes.now) }
+    ensures value { ReadsMessage (λ x. (x.0, x.1.now)) result (number_left is_column 1 bytes.now) }
     ensures shorter { IfOk result (λ x. length x.1.now ≤ length bytes.now) }
     ensures within { IfErr result (λ left. left ≤ length bytes.now) }
 {
@@ -54,7 +54,7 @@ fn is_end(col: u64, stop: u64, rest: &[u8]) -> bool
 
 /// The proof that a message is; where a field is wrong, how many bytes are left from it on.
 fn share_path_in(bytes: &[u8]) -> Result<SharePath, usize>
-    ensures value { Reads (λ path. path) result (share_path_left bytes.now) }
+    ensures value { ReadsMessage (λ path. path) result (share_path_left bytes.now) }
     ensures within { IfErr result (λ left. left ≤ length bytes.now) }
 {
     let (col, behind) = column_at(bytes)?;
@@ -72,7 +72,7 @@ fn share_path_in(bytes: &[u8]) -> Result<SharePath, usize>
 
 /// The proof in a field that may be at the front, and the bytes after it; where it is wrong, how many bytes are left.
 pub(crate) fn share_path_at(bytes: &[u8]) -> Result<(Option<SharePath>, &[u8]), usize>
-    ensures value { Reads (λ x. (x.0, x.1.now)) result (message_at (λ rest part. share_path_left part) 2 bytes.now) }
+    ensures value { ReadsMessage (λ x. (x.0, x.1.now)) result (optional_message (λ rest part. share_path_left part) 2 bytes.now) }
 {
     if !begins_part(PROOF, bytes) {
         return Ok((None, bytes));

@@ -4,9 +4,9 @@ ghost use Rattle.std.specs.Prelude.{◌≡◌, ◌↔◌, ℕ, ◌+◌, ◌≤�
 ghost use Rattle.namespace_id.specs.Answers.{HasRoom};
 ghost use Rattle.blob_commit.specs.Proofs.{RootedParts};
 ghost use Rattle.proto_fields.specs.Spelled.{bytes_field};
-ghost use Rattle.celestia_pb.specs.Reading.{Reads};
+ghost use Rattle.celestia_pb.specs.Reading.{ReadsMessage};
 ghost use Rattle.celestia_pb.specs.Aunts.{optional_at};
-ghost use Rattle.celestia_pb.specs.ShareProofs.{has_share_proof, name_of, share_part, row_part, share_proof_text, is_own, names_at, front_of, front_left, told_by, proof_of, proof_by, version_of, share_proof_end, share_proof_left, share_proof_value};
+ghost use Rattle.celestia_pb.specs.ShareProofs.{has_share_proof, name_of, share_part, row_part, share_proof_text, is_own, names_at, front_of, front_left, told_by, proof_of, proof_by, proved_version, share_proof_end, share_proof_left, share_proof_value};
 ghost use Rattle.celestia_pb.specs.ShareProofLaws.{ShareProofIsRead, ReadIsShareProof, ShareProofIsCommon, SharePathIsCommon, RootedRowIsCommon, RowPathIsCommon};
 
 use crate::befp_entries::{DATA, data_at};
@@ -60,7 +60,7 @@ fn is_own(share: Option<Share>, id: &[u8]) -> bool
 
 /// Whose id is at the front, and the bytes after it; where it is another one, how many bytes are left.
 fn names_at(share: Option<Share>, bytes: &[u8]) -> Result<(Option<Names>, &[u8]), usize>
-    ensures { Reads (λ x. (x.0, x.1.now)) result (optional_at (names_at share) 3 bytes.now) }
+    ensures { ReadsMessage (λ x. (x.0, x.1.now)) result (optional_at (names_at share) 3 bytes.now) }
 {
     if !begins_part(ID, bytes) {
         return Ok((None, bytes));
@@ -89,7 +89,7 @@ fn front_of(share: Option<Share>, path: Option<SharePath>, names: Option<Names>)
 /// What stands in front of the row's proof, and the bytes from that on; where a field is wrong, how many bytes are left from it
 /// on.
 fn front_at(bytes: &[u8]) -> Result<(Option<Front>, &[u8]), usize>
-    ensures { Reads (λ x. (x.0, x.1.now)) result (front_left bytes.now) }
+    ensures { ReadsMessage (λ x. (x.0, x.1.now)) result (front_left bytes.now) }
 {
     let (share, behind) = data_at(bytes)?;
     let (path, after) = share_path_at(behind)?;
@@ -157,7 +157,7 @@ fn name_of(proof: &RootedMessage) -> Namespace
 
 /// The version of its leaf's namespace.
 fn version_of(proof: &Option<RootedMessage>) -> Option<u64>
-    ensures { result ≡ version_of proof.now }
+    ensures { result ≡ proved_version proof.now }
 {
     match proof {
         Some(proof) => Some(u64::from(name_of(proof).0[0])),
@@ -172,8 +172,8 @@ fn ended(
     version: u64,
     rest: &[u8],
 ) -> Result<RootedMessage, usize>
-    requires { wanted ≡ version_of proof }
-    ensures { Reads (λ proof. proof) result (share_proof_end proof version rest.now) }
+    requires { wanted ≡ proved_version proof }
+    ensures { ReadsMessage (λ proof. proof) result (share_proof_end proof version rest.now) }
 {
     let (Some(proof), Some(wanted)) = (proof, wanted) else {
         return Err(rest.len());
@@ -186,7 +186,7 @@ fn ended(
 
 /// The root proof that a message is; where a field is wrong, how many bytes are left from it on.
 fn share_proof_in(bytes: &[u8]) -> Result<RootedMessage, usize>
-    ensures { Reads (λ proof. proof) result (share_proof_left bytes.now) }
+    ensures { ReadsMessage (λ proof. proof) result (share_proof_left bytes.now) }
 {
     let (front, behind) = front_at(bytes)?;
     let (row, after) = rooted_row_at(ROW, told_by(&front), behind)?;

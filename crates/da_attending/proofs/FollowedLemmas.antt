@@ -8,9 +8,9 @@ use Rattle.blob_feed.specs.Feeds.{Item, heights_of, IsFeedOf}
 use Rattle.da_wire.specs.Frames.{frames_of}
 use Rattle.da_status.specs.declared.status.Status.{Status}
 use Rattle.da_files.specs.Requests.{failing_from}
-use Rattle.da_following.specs.Follow.{is_followed, each_once, items_in, Feed, places_of, feed_lines, missing_count, feed_status, Follows}
+use Rattle.da_following.specs.Follow.{is_followed, each_once, items_in, RunFeed, run_places, feed_lines, missing_count, feed_status, Follows}
 use Rattle.da_following.specs.Heights.{fed_by}
-use Rattle.da_attending.specs.Attended.{items_of, missing_in}
+use Rattle.da_attending.specs.Attended.{items_of, count_missing}
 use Rattle.da_attending.specs.Orders.{AreLinesOf}
 use Rattle.da_attending.specs.Laws.{SaysFollowed}
 use Rattle.da_attending.proofs.OnceLemmas.{once_sorted}
@@ -29,10 +29,10 @@ module _ (fed : (wanted : List Namespace) (items : List Item) → failing_from i
   says_followed wanted bytes w status kept ended said text none whole follows so ends =
       let names : List Namespace = each_once wanted in
       let items : List Item = items_in bytes in
-      let feed : Feed = fed_by names (heights_of items) in
+      let feed : RunFeed = fed_by names (heights_of items) in
       let same : items_of (frames_of bytes) ≡ items = (takes_files bytes whole).1 in
       let is = fed wanted items none in
-      let both = once wanted items w (feed_lines feed (places_of wanted items)) status (feed_status (missing_count feed (places_of wanted items))) follows (feed, is, refl, refl) in
+      let both = once wanted items w (feed_lines feed (run_places wanted items)) status (feed_status (missing_count feed (run_places wanted items))) follows (feed, is, refl, refl) in
       record {
         feed = feed;
         is = is;
@@ -40,6 +40,6 @@ module _ (fed : (wanted : List Namespace) (items : List Item) → failing_from i
         lines = subst (λ (l : List Item). AreLinesOf (fed_by names (heights_of l)) names (length (heights_of l)) (said ++ text)) same
             (says_lines names kept ended (frames_of bytes) said text (once_sorted wanted) so ends);
         status_is = λ few.
-            ends.counted ∙ ap (λ (l : List Item). feed_status (min (missing_in names l) max_count)) same
-            ∙ ap feed_status (counted (missing_in names items) few) ∙ sym both.1;
+            ends.counted ∙ ap (λ (l : List Item). feed_status (min (count_missing names l) max_count)) same
+            ∙ ap feed_status (counted (count_missing names items) few) ∙ sym both.1;
       }

@@ -5,7 +5,7 @@ use Rattle.std.proofs.Math.Seq.{take-append_seam}
 use Rattle.data_header.specs.Headers.{Roots}
 use Rattle.blob_feed.specs.Feeds.{NamedAnswer, Item, headed, answered, Height, with_answer, answers_ahead, heights_of}
 use Rattle.blob_feed.proofs.ZipLemmas.{get_behind}
-use Rattle.da_attending.specs.Attended.{under_way, number_of}
+use Rattle.da_attending.specs.Attended.{height_under_way, height_number}
 use Rattle.da_attending.specs.Attenders.{behind}
 
 -- ---- lists
@@ -94,7 +94,7 @@ heights_headed items header =
 -- ---- the height under way
 
 -- of no heights none is under way
-pub way_none : (items : List Item) → heights_of items ≡ [] → under_way items ≡ None
+pub way_none : (items : List Item) → heights_of items ≡ [] → height_under_way items ≡ None
 way_none items e = ap (λ (l : List Height). slice_get l (length l - 1)) e
 
 -- and none is behind
@@ -103,8 +103,8 @@ behind_none items e = ap (λ (l : List Height). take (length l - 1) l) e ∙ sym
 
 -- of heights that end in one it is under way, and the others are behind
 pub record AtLast (items : List Item) (front : List Height) (last : Height) : Type 0 where
-  pub way : under_way items ≡ Some last
-  pub number : number_of items ≡ length front
+  pub way : height_under_way items ≡ Some last
+  pub number : height_number items ≡ length front
   pub before : behind items ≡ front
 
 pub at_last : (items : List Item) (front : List Height) (last : Height) → heights_of items ≡ front ++ last ∷ [] → AtLast items front last

@@ -13,7 +13,7 @@ use Rattle.namespace_id.proofs.WidthLemmas.{is_width-le}
 use Rattle.data_header.specs.Headers.{Roots}
 use Rattle.axis_roots.specs.declared.answers.Found.{Found}
 use Rattle.axis_roots.specs.declared.answers.NsEntry.{NsEntry}
-use Rattle.frame_fields.specs.Fields.{byte_at, string_at, number_at, split_into, digest, path_at, count_at, many_at, list_at}
+use Rattle.frame_fields.specs.Fields.{byte_at, string_at, big_endian_at, split_into, digest, path_at, count_at, many_at, list_at}
 use Rattle.frame_payloads.specs.Payloads.{max_payload}
 use Rattle.frame_payloads.specs.kinds.Header.{header_at}
 use Rattle.frame_payloads.specs.kinds.Names.{share_list_at, range_at, absence_at, found_at, entry_at, entries_at, names_at}
@@ -41,14 +41,14 @@ front_few {A} f size bytes r e =
     omega (arith, left_of made r g.1, length-drop size bytes)
 
 -- a number of two bytes
-number_few : TakesFew 2 (number_at w16)
+number_few : TakesFew 2 (big_endian_at w16)
 number_few bytes r e = front_few (from_be_bytes w16) 2 bytes r e
 
 -- a count of two bytes
 count_few : (limit : ℕ) (bytes : List ℕ) (r : ℕ × List ℕ) → count_at w16 limit bytes ≡ Some r → (r.0 ≤ limit) × (length bytes ≤ 2 + length r.1)
 unfolding count_at
 count_few limit bytes r e =
-    let count = bind_some (number_at w16 bytes) _ r e in
+    let count = bind_some (big_endian_at w16 bytes) _ r e in
     let few = if_false (ltb limit count.0.0) (Some count.0) r count.2 in
     let same : count.0 ≡ r = same_Some count.0 r few.1 in (
       subst (λ (x : ℕ × List ℕ). x.0 ≤ limit) same (ltb-false limit count.0.0 few.0),
@@ -89,7 +89,7 @@ shares_few bytes r e =
 range_few : TakesFew 263949 range_at
 unfolding range_at
 range_few bytes r e =
-    let start = bind_some (number_at w16 bytes) _ r e in
+    let start = bind_some (big_endian_at w16 bytes) _ r e in
     let shares = bind_some (share_list_at start.0.1) _ r start.2 in
     let nodes = bind_some (path_at 20 shares.0.1) _ r shares.2 in
     omega (
@@ -103,7 +103,7 @@ range_few bytes r e =
 absence_few : TakesFew 1893 absence_at
 unfolding absence_at
 absence_few bytes r e =
-    let pos = bind_some (number_at w16 bytes) _ r e in
+    let pos = bind_some (big_endian_at w16 bytes) _ r e in
     let leaf = bind_some (string_at 90 pos.0.1) _ r pos.2 in
     let nodes = bind_some (path_at 20 leaf.0.1) _ r leaf.2 in
     omega (
@@ -132,7 +132,7 @@ found_few bytes r e =
 entry_few : TakesFew 263952 entry_at
 unfolding entry_at
 entry_few bytes r e =
-    let row = bind_some (number_at w16 bytes) _ r e in
+    let row = bind_some (big_endian_at w16 bytes) _ r e in
     let found = bind_some (found_at row.0.1) _ r row.2 in
     omega (arith, number_few bytes row.0 row.1, found_few row.0.1 found.0 found.1, left_of _ r found.2)
 
@@ -163,7 +163,7 @@ names_few payload r e =
 pub header_few : (payload : List ℕ) (r : Roots) → header_at payload ≡ Some r → length payload ≤ max_payload
 unfolding header_at
 header_few payload r e =
-    let k = bind_some (number_at w16 payload) _ r e in
+    let k = bind_some (big_endian_at w16 payload) _ r e in
     let width = if_false (not (is_width k.0.0)) _ r k.2 in
     let long = if_true (eqb (length k.0.1) (360 * k.0.0)) _ r width.1 in
     omega (

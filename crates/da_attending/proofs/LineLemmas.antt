@@ -17,11 +17,11 @@ use Rattle.blob_feed.specs.Followers.{is_name}
 use Rattle.blob_feed.specs.Firsts.{first_read}
 use Rattle.blob_feed.proofs.NameLemmas.{same_name, same_refl}
 use Rattle.blob_feed.proofs.FirstLemmas.{first_more}
-use Rattle.da_following.specs.Follow.{Feed, Place, place_text, read_text, places_at, feed_lines}
+use Rattle.da_following.specs.Follow.{RunFeed, FeedPlace, place_text, read_text, places_at, feed_lines}
 use Rattle.da_following.specs.Heights.{read_at, fed_by}
 use Rattle.da_following.proofs.FeedLineLemmas.{lines_both}
 use Rattle.da_following.proofs.KeptLemmas.{or_none}
-use Rattle.da_attending.specs.Attended.{has_items, fits, had, missing_at, lines_of, news, missing_lines, reply_to}
+use Rattle.da_attending.specs.Attended.{has_items, fits, had, missing_at, height_lines, news, height_missing, reply_to}
 use Rattle.da_attending.specs.Attenders.{is_listed}
 use Rattle.da_attending.specs.Orders.{places_by, AreLinesOf}
 use Rattle.da_attending.proofs.HeightLemmas.{heights_answered, heights_headed, at_last}
@@ -81,7 +81,7 @@ less_one p q name (first ∷ names) sorted found passes fails same = elim (cases
 
 -- ---- lines of places
 
-module _ (feed other : Feed) where
+module _ (feed other : RunFeed) where
   -- feeds that are alike at a height have the same lines there
   alike_at : (number : ℕ) (names : List Namespace) → AllByRecursion (λ (n : Namespace). feed number n ≡ other number n) names
       → feed_lines feed (places_at names number) ≡ feed_lines other (places_at names number)
@@ -113,18 +113,18 @@ unfolding places_by
 places_more first [] order = append-nil (places_at order first) ∙ ap (places_at order) (let e : first ≡ first + 0 = omega arith in e)
 places_more first (one ∷ later) order =
     let next : first + 1 + length later ≡ first + suc (length later) = omega arith in
-    ap (λ (l : List Place). places_at one first ++ l) (places_more (first + 1) later order
+    ap (λ (l : List FeedPlace). places_at one first ++ l) (places_more (first + 1) later order
     ∙ ap (λ (n : ℕ). places_by (first + 1) later ++ places_at order n) next)
     ∙ sym (append_assoc (places_at one first) (places_by (first + 1) later) (places_at order (first + suc (length later))))
 
 -- more namespaces at a height
 places_both : (number : ℕ) (names more : List Namespace) → places_at (names ++ more) number ≡ places_at names number ++ places_at more number
 places_both number [] more = refl
-places_both number (name ∷ names) more = ap (λ (l : List Place). (number, name) ∷ l) (places_both number names more)
+places_both number (name ∷ names) more = ap (λ (l : List FeedPlace). (number, name) ∷ l) (places_both number names more)
 
 -- the lines of places where nothing is had
-none_lines : (feed : Feed) (number : ℕ) (names : List Namespace) → AllByRecursion (λ (n : Namespace). feed number n ≡ None) names
-    → feed_lines feed (places_at names number) ≡ flat_map (λ (n : Namespace). lines_of number n None) names
+none_lines : (feed : RunFeed) (number : ℕ) (names : List Namespace) → AllByRecursion (λ (n : Namespace). feed number n ≡ None) names
+    → feed_lines feed (places_at names number) ≡ flat_map (λ (n : Namespace). height_lines number n None) names
 none_lines feed number [] all = refl
 none_lines feed number (name ∷ names) all =
     ap₂ (λ (read : Option Read) (l : List ℕ). (place_text number name ++ read_text read) ++ l) all.0 (none_lines feed number names all.1)
@@ -181,10 +181,10 @@ module _ (names : List Namespace) where
   of_more (first ∷ orders) order all is = (all.0, of_more orders order all.1 is)
 
   -- with the missing lines of the height under way all lines were said
-  closed : (items : List Item) (said : List ℕ) → SaidAt names items said → AreLines names items (said ++ missing_lines names items)
+  closed : (items : List Item) (said : List ℕ) → SaidAt names items said → AreLines names items (said ++ height_missing names items)
   closed items said s =
       let heights : List Height = s.front ++ s.last ∷ [] in
-      let feed : Feed = fed_by names heights in
+      let feed : RunFeed = fed_by names heights in
       let number : ℕ = length s.front in
       let at = at_last items s.front s.last s.parts in
       let missing : List Namespace = missing_at names (Some s.last) in
@@ -194,12 +194,12 @@ module _ (names : List Namespace) where
       of_kept (λ (n : Namespace). is_none (first_read s.last.header n s.last.answers)) (λ (n : Namespace). feed number n ≡ None) names
       (of_each names (λ (n : Namespace). is_none (first_read s.last.header n s.last.answers) ≡ true → feed number n ≡ None)
       (λ name found e. fed_here names s.front s.last name found ∙ none_of (first_read s.last.header name s.last.answers) e)) in
-      let told : missing_lines names items ≡ feed_lines feed (places_at missing number) =
-      ap₂ (λ (k : ℕ) (o : Option Height). flat_map (λ (n : Namespace). lines_of k n None) (missing_at names o)) at.number at.way
+      let told : height_missing names items ≡ feed_lines feed (places_at missing number) =
+      ap₂ (λ (k : ℕ) (o : Option Height). flat_map (λ (n : Namespace). height_lines k n None) (missing_at names o)) at.number at.way
       ∙ sym (none_lines feed number missing none) in
       let places : places_by 0 (s.orders ++ order ∷ []) ≡ (places_by 0 s.orders ++ places_at s.came number) ++ places_at missing number =
       places_more 0 s.orders order ∙ ap (λ (n : ℕ). places_by 0 s.orders ++ places_at order n) zeroth
-      ∙ ap (λ (l : List Place). places_by 0 s.orders ++ l) (places_both number s.came missing)
+      ∙ ap (λ (l : List FeedPlace). places_by 0 s.orders ++ l) (places_both number s.came missing)
       ∙ sym (append_assoc (places_by 0 s.orders) (places_at s.came number) (places_at missing number)) in
       let long : length (s.orders ++ order ∷ []) ≡ length (heights_of items) =
       length-append s.orders (order ∷ []) ∙ ap (λ (n : ℕ). n + 1) s.count ∙ sym (length-append s.front (s.last ∷ []))
@@ -215,14 +215,14 @@ module _ (names : List Namespace) where
       }
 
   -- before the first header there are none
-  none_closed : (items : List Item) (said : List ℕ) → items ≡ [] → said ≡ [] → AreLines names items (said ++ missing_lines names items)
+  none_closed : (items : List Item) (said : List ℕ) → items ≡ [] → said ≡ [] → AreLines names items (said ++ height_missing names items)
   unfolding heights_of places_by
   none_closed items said none nothing =
-      subst₂ (λ (l : List Item) (t : List ℕ). AreLines names l (t ++ missing_lines names l)) (sym none) (sym nothing)
+      subst₂ (λ (l : List Item) (t : List ℕ). AreLines names l (t ++ height_missing names l)) (sym none) (sym nothing)
       (record { orders = []; count_is = refl; of = tt; lines = refl })
 
   -- so it is in any case
-  pub all_said : (items : List Item) (said : List ℕ) → HasSaid names items said → AreLines names items (said ++ missing_lines names items)
+  pub all_said : (items : List Item) (said : List ℕ) → HasSaid names items said → AreLines names items (said ++ height_missing names items)
   all_said items said (inl h) = none_closed items said h.0 h.1
   all_said items said (inr s) = closed items said s
 
@@ -233,7 +233,7 @@ module _ (names : List Namespace) where
 
   -- a header more
   pub said_headed : (items : List Item) (header : Roots) (said : List ℕ) → HasSaid names items said
-      → HasSaid names (items ++ headed header ∷ []) (said ++ missing_lines names items)
+      → HasSaid names (items ++ headed header ∷ []) (said ++ height_missing names items)
   unfolding places_by
   said_headed items header said h =
       let lines = all_said items said h in
@@ -276,10 +276,10 @@ module _ (names : List Namespace) where
     abbrev more : Namespace → Option Read
     more name = first_read s.last.header name (given ∷ [])
 
-    abbrev old_feed : Feed
+    abbrev old_feed : RunFeed
     old_feed = fed_by names (s.front ++ s.last ∷ [])
 
-    abbrev new_feed : Feed
+    abbrev new_feed : RunFeed
     new_feed = fed_by names (s.front ++ with_answer s.last given ∷ [])
 
     -- both together
@@ -353,11 +353,11 @@ module _ (names : List Namespace) where
         let name : Namespace = given.name in
         let now : first_read s.last.header name (s.last.answers ++ given ∷ []) ≡ Some read = now_is name ∙ ap₂ option_or none some in
         let fed : new_feed number name ≡ Some read = fed_here names s.front (with_answer s.last given) name listed ∙ now in
-        let reply : reply_to names items (answered given) ≡ lines_of number name (Some read) =
+        let reply : reply_to names items (answered given) ≡ height_lines number name (Some read) =
         replied ∙ ap (λ (b : Bool). if b then news number name (before name) (option_or (before name) (more name)) else []) listed
         ∙ ap₂ (λ (o p : Option Read). news number name o (option_or o p)) none some in
-        let line : lines_of number name (Some read) ≡ feed_lines new_feed ((number, name) ∷ []) =
-        sym (append-nil (lines_of number name (Some read))) ∙ ap (λ (o : Option Read). lines_of number name o ++ []) (sym fed) in
+        let line : height_lines number name (Some read) ≡ feed_lines new_feed ((number, name) ∷ []) =
+        sym (append-nil (height_lines number name (Some read))) ∙ ap (λ (o : Option Read). height_lines number name o ++ []) (sym fed) in
         record {
           front = s.front;
           last = with_answer s.last given;
@@ -375,7 +375,7 @@ module _ (names : List Namespace) where
           lines = ap₂ (λ (a b : List ℕ). a ++ b) (s.lines ∙ lines_stay) (reply ∙ line)
               ∙ sym (lines_both new_feed (places_by 0 s.orders ++ places_at s.came number) ((number, name) ∷ []))
               ∙ ap (feed_lines new_feed) (append_assoc (places_by 0 s.orders) (places_at s.came number) ((number, name) ∷ [])
-              ∙ ap (λ (l : List Place). places_by 0 s.orders ++ l) (sym (places_both number s.came (name ∷ []))));
+              ∙ ap (λ (l : List FeedPlace). places_by 0 s.orders ++ l) (sym (places_both number s.came (name ∷ []))));
         }
 
     -- where the answer brings nothing, all stays

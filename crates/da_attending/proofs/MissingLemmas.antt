@@ -6,12 +6,12 @@ use Rattle.namespace_id.specs.declared.namespaces.Namespace.{Namespace}
 use Rattle.blob_feed.specs.Feeds.{Height}
 use Rattle.blob_feed.specs.Firsts.{first_read}
 use Rattle.blob_feed.proofs.ZipLemmas.{get_behind}
-use Rattle.da_following.specs.Follow.{Feed, Place, places_at, places_from, is_missing, missing_count}
+use Rattle.da_following.specs.Follow.{RunFeed, FeedPlace, places_at, places_from, is_place_missing, missing_count}
 use Rattle.da_following.specs.Heights.{read_at, fed_by}
 use Rattle.da_following.proofs.FeedLineLemmas.{places_last, missing_both}
 use Rattle.da_following.proofs.FeedStatusLemmas.{each_place, each_name}
 use Rattle.da_attending.specs.Attended.{missing_at}
-use Rattle.da_attending.specs.Attenders.{is_listed, unknown, missing_of}
+use Rattle.da_attending.specs.Attenders.{is_listed, unknown, places_missing}
 
 -- ---- lists
 
@@ -27,7 +27,7 @@ kept_by true x xs y ys e = ap suc e
 kept_by false x xs y ys e = e
 
 -- as many places of a height pass a test as namespaces pass it there
-count_at : (p : Place → Bool) (names : List Namespace) (number : ℕ)
+count_at : (p : FeedPlace → Bool) (names : List Namespace) (number : ℕ)
     → length (filter p (places_at names number)) ≡ length (filter (λ (n : Namespace). p (number, n)) names)
 count_at p [] number = refl
 count_at p (name ∷ names) number =
@@ -47,9 +47,9 @@ of_each names Q holds = (each_name Q names).1 holds
 -- ---- feeds
 
 -- feeds that are alike at places miss as much there
-alike_missing : (feed other : Feed) (places : List Place) → AllByRecursion (λ (p : Place). is_missing feed p ≡ is_missing other p) places
+alike_missing : (feed other : RunFeed) (places : List FeedPlace) → AllByRecursion (λ (p : FeedPlace). is_place_missing feed p ≡ is_place_missing other p) places
     → missing_count feed places ≡ missing_count other places
-alike_missing feed other places all = ap (λ (l : List Place). length l) (filter_alike (is_missing feed) (is_missing other) places all)
+alike_missing feed other places all = ap (λ (l : List FeedPlace). length l) (filter_alike (is_place_missing feed) (is_place_missing other) places all)
 
 module _ (names : List Namespace) (front : List Height) (last : Height) where
   -- what is fed below a height stays with it
@@ -66,22 +66,22 @@ module _ (names : List Namespace) (front : List Height) (last : Height) where
       ∙ ap (λ (o : Option Height). read_at o name) (get_behind front last [])
 
   -- with one height more nothing is had at its places besides
-  pub missing_more : missing_of names (front ++ last ∷ []) ≡ missing_of names front + length (missing_at names (Some last))
+  pub missing_more : places_missing names (front ++ last ∷ []) ≡ places_missing names front + length (missing_at names (Some last))
   missing_more =
       let all : List Height = front ++ last ∷ [] in
-      let feed : Feed = fed_by names all in
+      let feed : RunFeed = fed_by names all in
       let count : ℕ = length front in
       let zeroth : 0 + count ≡ count = omega arith in
-      let below : missing_count feed (places_from names 0 count) ≡ missing_of names front =
+      let below : missing_count feed (places_from names 0 count) ≡ places_missing names front =
       alike_missing feed (fed_by names front) (places_from names 0 count)
-      ((each_place (λ (p : Place). is_missing feed p ≡ is_missing (fed_by names front) p) names 0 count).1
-      (λ number from less. of_each names (λ (n : Namespace). is_missing feed (number, n) ≡ is_missing (fed_by names front) (number, n))
+      ((each_place (λ (p : FeedPlace). is_place_missing feed p ≡ is_place_missing (fed_by names front) p) names 0 count).1
+      (λ number from less. of_each names (λ (n : Namespace). is_place_missing feed (number, n) ≡ is_place_missing (fed_by names front) (number, n))
       (λ name found. ap (λ r. not (is_some r)) (fed_below number name (omega (arith, less)))))) in
       let here : missing_count feed (places_at names count) ≡ length (missing_at names (Some last)) =
-      count_at (is_missing feed) names count
+      count_at (is_place_missing feed) names count
       ∙ ap (λ (l : List Namespace). length l)
-      (filter_alike (λ (n : Namespace). is_missing feed (count, n)) (λ (n : Namespace). is_none (first_read last.header n last.answers)) names
-      (of_each names (λ (n : Namespace). is_missing feed (count, n) ≡ is_none (first_read last.header n last.answers))
+      (filter_alike (λ (n : Namespace). is_place_missing feed (count, n)) (λ (n : Namespace). is_none (first_read last.header n last.answers)) names
+      (of_each names (λ (n : Namespace). is_place_missing feed (count, n) ≡ is_none (first_read last.header n last.answers))
       (λ name found. ap (λ r. not (is_some r)) (fed_here name found)))) in
       ap (λ (n : ℕ). missing_count feed (places_from names 0 n)) (length-append front (last ∷ []))
       ∙ ap (missing_count feed) (places_last names 0 count)

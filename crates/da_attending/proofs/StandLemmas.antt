@@ -14,10 +14,10 @@ use Rattle.blob_feed.specs.Firsts.{first_read}
 use Rattle.blob_feed.proofs.NameLemmas.{same_name}
 use Rattle.blob_feed.proofs.FirstLemmas.{first_more}
 use Rattle.da_following.specs.Follow.{place_text}
-use Rattle.da_following.specs.Heights.{said, said_by, read_at}
+use Rattle.da_following.specs.Heights.{said, first_said, read_at}
 use Rattle.da_following.proofs.KeptLemmas.{said_other}
-use Rattle.da_attending.specs.Attended.{has_items, under_way, number_of, had, missing_at, lines_of, news, missing_lines, missing_in, reply_to}
-use Rattle.da_attending.specs.Attenders.{is_listed, unknown, missing_of, AttendParts, IsFresh, Stands, new_text}
+use Rattle.da_attending.specs.Attended.{has_items, height_under_way, height_number, had, missing_at, height_lines, news, height_missing, count_missing, reply_to}
+use Rattle.da_attending.specs.Attenders.{is_listed, unknown, places_missing, AttendParts, IsFreshAttender, AttenderStands, new_text}
 use Rattle.da_attending.proofs.HeightLemmas.{ends_in, parted, heights_answered, heights_headed, way_none, behind_none, at_last}
 use Rattle.da_attending.proofs.MissingLemmas.{missing_more, unknown_is}
 
@@ -59,7 +59,7 @@ not_empty (item ∷ items) front last e = refl
 
 -- ---- the height under way of what an attender stands for
 
-module _ (now : AttendParts) (items : List Item) (stands : Stands now items) where
+module _ (now : AttendParts) (items : List Item) (stands : AttenderStands now items) where
   -- with no header no height began
   pub none_began : now.header ≡ None → heights_of items ≡ []
   none_began none = elim (parted (heights_of items)) [
@@ -83,18 +83,18 @@ module _ (now : AttendParts) (items : List Item) (stands : Stands now items) whe
   ]
 
   -- with no header nothing is missing
-  pub none_told : now.header ≡ None → [] ≡ missing_lines now.names items
+  pub none_told : now.header ≡ None → [] ≡ height_missing now.names items
   none_told none =
-      ap (λ (o : Option Height). flat_map (λ (n : Namespace). lines_of (number_of items) n None) (missing_at now.names o))
+      ap (λ (o : Option Height). flat_map (λ (n : Namespace). height_lines (height_number items) n None) (missing_at now.names o))
       (sym (way_none items (none_began none)))
 
   -- and the count is that of all heights
-  pub none_counted : now.header ≡ None → now.missing ≡ min (missing_in now.names items) max_count
+  pub none_counted : now.header ≡ None → now.missing ≡ min (count_missing now.names items) max_count
   none_counted none =
-      stands.missing ∙ ap (λ (l : List Height). min (missing_of now.names l) max_count) (behind_none items (none_began none))
+      stands.missing ∙ ap (λ (l : List Height). min (places_missing now.names l) max_count) (behind_none items (none_began none))
 
   -- the namespaces that aren't known are those of which nothing is had
-  unknown_now : (header : Roots) → now.header ≡ Some header → unknown now.known now.names ≡ missing_at now.names (under_way items)
+  unknown_now : (header : Roots) → now.header ≡ Some header → unknown now.known now.names ≡ missing_at now.names (height_under_way items)
   unknown_now header some =
       let b = began header some in
       let at = at_last items b.0 b.1 b.2 in
@@ -103,25 +103,25 @@ module _ (now : AttendParts) (items : List Item) (stands : Stands now items) whe
 
   -- with a header their lines are told
   pub some_told : (header : Roots) → now.header ≡ Some header → (number : ℕ) → number ≡ now.heights - 1
-      → flat_map (λ (n : Namespace). lines_of number n None) (unknown now.known now.names) ≡ missing_lines now.names items
+      → flat_map (λ (n : Namespace). height_lines number n None) (unknown now.known now.names) ≡ height_missing now.names items
   some_told header some number is =
-      ap₂ (λ (k : ℕ) (l : List Namespace). flat_map (λ (n : Namespace). lines_of k n None) l)
+      ap₂ (λ (k : ℕ) (l : List Namespace). flat_map (λ (n : Namespace). height_lines k n None) l)
       (is ∙ ap (λ (k : ℕ). k - 1) stands.heights) (unknown_now header some)
 
   -- and counted
   pub some_counted : (header : Roots) → now.header ≡ Some header → (count : ℕ) → count ≡ length (unknown now.known now.names)
-      → min (now.missing + count) max_count ≡ min (missing_in now.names items) max_count
+      → min (now.missing + count) max_count ≡ min (count_missing now.names items) max_count
   some_counted header some count is =
       let b = began header some in
       let at = at_last items b.0 b.1 b.2 in
-      let all : missing_in now.names items ≡ missing_of now.names b.0 + length (missing_at now.names (Some b.1)) =
-      ap (missing_of now.names) b.2 ∙ missing_more now.names b.0 b.1 in
-      let before : now.missing ≡ min (missing_of now.names b.0) max_count =
-      stands.missing ∙ ap (λ (l : List Height). min (missing_of now.names l) max_count) at.before in
+      let all : count_missing now.names items ≡ places_missing now.names b.0 + length (missing_at now.names (Some b.1)) =
+      ap (places_missing now.names) b.2 ∙ missing_more now.names b.0 b.1 in
+      let before : now.missing ≡ min (places_missing now.names b.0) max_count =
+      stands.missing ∙ ap (λ (l : List Height). min (places_missing now.names l) max_count) at.before in
       let here : count ≡ length (missing_at now.names (Some b.1)) =
       is ∙ ap (λ (l : List Namespace). length l) (unknown_now header some ∙ ap (missing_at now.names) at.way) in
       ap₂ (λ (a c : ℕ). min (a + c) max_count) before here
-      ∙ min_step (missing_of now.names b.0) (length (missing_at now.names (Some b.1))) max_count
+      ∙ min_step (places_missing now.names b.0) (length (missing_at now.names (Some b.1))) max_count
       ∙ ap (λ (n : ℕ). min n max_count) (sym all)
 
   -- behind a header there is something
@@ -131,7 +131,7 @@ module _ (now : AttendParts) (items : List Item) (stands : Stands now items) whe
       not_empty items b.0 b.1 b.2
 
 -- nothing stands for nothing
-pub stands_fresh : (now : AttendParts) → IsFresh now → Stands now []
+pub stands_fresh : (now : AttendParts) → IsFreshAttender now → AttenderStands now []
 unfolding heights_of
 stands_fresh now fresh = record {
   led = λ none. refl;
@@ -143,9 +143,9 @@ stands_fresh now fresh = record {
 
 -- ---- a header more
 
-pub stands_headed : (old new : AttendParts) (items : List Item) (header : Roots) → Stands old items → length (heights_of items) + 1 ≤ max_count
+pub stands_headed : (old new : AttendParts) (items : List Item) (header : Roots) → AttenderStands old items → length (heights_of items) + 1 ≤ max_count
     → new.names ≡ old.names → new.known ≡ [] → new.header ≡ Some header → new.heights ≡ min (old.heights + 1) max_count
-    → new.missing ≡ min (missing_in old.names items) max_count → Stands new (items ++ headed header ∷ [])
+    → new.missing ≡ min (count_missing old.names items) max_count → AttenderStands new (items ++ headed header ∷ [])
 stands_headed old new items header stands few names known is heights missing =
     let made : Height = record { header = header; answers = [] } in
     let parts : heights_of (items ++ headed header ∷ []) ≡ heights_of items ++ made ∷ [] = heights_headed items header in
@@ -158,7 +158,7 @@ stands_headed old new items header stands few names known is heights missing =
       heights = omega (arith, stands.heights, long, few, heights);
       known = λ name found. ap (λ (l : List Namespace). is_listed l name) known
           ∙ ap (λ (o : Option Height). is_some (read_at o name)) (sym at.way);
-      missing = missing ∙ ap₂ (λ (n : List Namespace) (l : List Height). min (missing_of n l) max_count) (sym names) (sym at.before);
+      missing = missing ∙ ap₂ (λ (n : List Namespace) (l : List Height). min (places_missing n l) max_count) (sym names) (sym at.before);
     }
 
 -- ---- an answer more
@@ -181,7 +181,7 @@ module _ (header : Roots) (given : NamedAnswer) where
       → is_listed new name ≡ (is_listed old name || is_some (first_read header name (given ∷ [])))
 
   -- nothing is known besides, by whether the namespace is wanted, and known already
-  same_by : (wanted known : Bool) → (if wanted && not known then said_by header given.name (given ∷ []) else None) ≡ None → wanted ≡ true
+  same_by : (wanted known : Bool) → (if wanted && not known then first_said header given.name (given ∷ []) else None) ≡ None → wanted ≡ true
       → known ≡ (known || is_some brought)
   same_by false known none e = absurd cc
   same_by true true none e = refl
@@ -197,7 +197,7 @@ module _ (header : Roots) (given : NamedAnswer) where
   ]
 
   -- the namespace of the answer is known besides
-  brought_by : (wanted known : Bool) (text : List ℕ) → (if wanted && not known then said_by header given.name (given ∷ []) else None) ≡ Some text
+  brought_by : (wanted known : Bool) (text : List ℕ) → (if wanted && not known then first_said header given.name (given ∷ []) else None) ≡ Some text
       → is_some brought ≡ true
   brought_by false known text some = absurd cc
   brought_by true true text some = absurd cc
@@ -230,14 +230,14 @@ module _ (header : Roots) (given : NamedAnswer) where
 
   -- by whether the namespace is wanted
   reply_by : (wanted known : Bool) (number : ℕ) (before : Option Read) → (wanted ≡ true → known ≡ is_some before)
-      → text_with number (if wanted && not known then said_by header given.name (given ∷ []) else None)
+      → text_with number (if wanted && not known then first_said header given.name (given ∷ []) else None)
       ≡ (if wanted then news number given.name before (option_or before brought) else [])
   reply_by false known number before same = refl
   reply_by true known number before same =
-      ap (λ (b : Bool). text_with number (if true && not b then said_by header given.name (given ∷ []) else None)) (same refl)
+      ap (λ (b : Bool). text_with number (if true && not b then first_said header given.name (given ∷ []) else None)) (same refl)
       ∙ news_by number before brought
 
-  module _ (old : AttendParts) (items : List Item) (stands : Stands old items) (some : old.header ≡ Some header) where
+  module _ (old : AttendParts) (items : List Item) (stands : AttenderStands old items) (some : old.header ≡ Some header) where
     -- what is had of a namespace with the answer
     had_more : (name : Namespace) → had (items ++ answered given ∷ []) name ≡ option_or (had items name) (first_read header name (given ∷ []))
     had_more name =
@@ -259,7 +259,7 @@ module _ (header : Roots) (given : NamedAnswer) where
 
     -- an attender that took it
     pub stands_answered : (new : AttendParts) → new.names ≡ old.names → new.header ≡ old.header → new.heights ≡ old.heights
-        → new.missing ≡ old.missing → IsMore old.names old.known new.known → Stands new (items ++ answered given ∷ [])
+        → new.missing ≡ old.missing → IsMore old.names old.known new.known → AttenderStands new (items ++ answered given ∷ [])
     stands_answered new names head heights missing known =
         let b = began old items stands header some in
         let was = at_last items b.0 b.1 b.2 in
@@ -278,5 +278,5 @@ module _ (header : Roots) (given : NamedAnswer) where
               ∙ ap (λ (t : Bool). t || is_some (first_read header name (given ∷ []))) (stands.known name there)
               ∙ sym (ap is_some (had_more name) ∙ some_or (had items name) (first_read header name (given ∷ [])));
           missing = missing ∙ stands.missing
-              ∙ ap₂ (λ (n : List Namespace) (l : List Height). min (missing_of n l) max_count) (sym names) (was.before ∙ sym at.before);
+              ∙ ap₂ (λ (n : List Namespace) (l : List Height). min (places_missing n l) max_count) (sym names) (was.before ∙ sym at.before);
         }

@@ -41,16 +41,16 @@ fits items (Some (answered given)) = has_items items
 -- ---- the height under way
 
 -- the height under way behind headers and answers, if one began
-abbrev pub under_way : List Item → Option Height
-under_way items = slice_get (heights_of items) (length (heights_of items) - 1)
+abbrev pub height_under_way : List Item → Option Height
+height_under_way items = slice_get (heights_of items) (length (heights_of items) - 1)
 
 -- its number
-abbrev pub number_of : List Item → ℕ
-number_of items = length (heights_of items) - 1
+abbrev pub height_number : List Item → ℕ
+height_number items = length (heights_of items) - 1
 
 -- what is had of a namespace there so far
 abbrev pub had : List Item → Namespace → Option Read
-had items name = read_at (under_way items) name
+had items name = read_at (height_under_way items) name
 
 -- the namespaces of which nothing is had at a height, if there is one
 abbrev pub missing_at : List Namespace → Option Height → List Namespace
@@ -60,21 +60,21 @@ missing_at names (Some height) = filter (λ name. is_none (first_read height.hea
 -- ---- lines
 
 -- the lines of a namespace at a height, by what is had of it
-abbrev pub lines_of : ℕ → Namespace → Option Read → List ℕ
-lines_of number name read = place_text number name ++ read_text read
+abbrev pub height_lines : ℕ → Namespace → Option Read → List ℕ
+height_lines number name read = place_text number name ++ read_text read
 
 -- the lines of a namespace of which nothing was had before, and something is now
 abbrev pub news : ℕ → Namespace → Option Read → Option Read → List ℕ
-news number name None (Some read) = lines_of number name (Some read)
+news number name None (Some read) = height_lines number name (Some read)
 news number name before now = []
 
 -- the lines of the wanted namespaces of which nothing is had at the height under way
-abbrev pub missing_lines : List Namespace → List Item → List ℕ
-missing_lines names items = flat_map (λ name. lines_of (number_of items) name None) (missing_at names (under_way items))
+abbrev pub height_missing : List Namespace → List Item → List ℕ
+height_missing names items = flat_map (λ name. height_lines (height_number items) name None) (missing_at names (height_under_way items))
 
 -- at how many places of all heights nothing is had of a wanted namespace
-abbrev pub missing_in : List Namespace → List Item → ℕ
-missing_in names items =
+abbrev pub count_missing : List Namespace → List Item → ℕ
+count_missing names items =
     missing_count (fed_by names (heights_of items)) (places_from names 0 (length (heights_of items)))
 
 -- ---- what is due, where these namespaces are wanted
@@ -82,33 +82,33 @@ missing_in names items =
 -- the reply to a header or an answer behind others: to a header the missing lines of the height before it, to an answer for a wanted
 -- namespace the lines of what came to be had by it
 abbrev pub reply_to : List Namespace → List Item → Item → List ℕ
-reply_to names items (headed header) = missing_lines names items
+reply_to names items (headed header) = height_missing names items
 reply_to names items (answered given) =
     if list_any (is_name given.name) names
-    then news (number_of items) given.name (had items given.name) (had (items ++ answered given ∷ []) given.name)
+    then news (height_number items) given.name (had items given.name) (had (items ++ answered given ∷ []) given.name)
     else []
 
 -- the reply to a frame behind others, which fits
-pub record Replies (names : List Namespace) (frames : List Raw) (frame : Raw) (text : List ℕ) : Type 0 where
+pub record RepliesAttending (names : List Namespace) (frames : List Raw) (frame : Raw) (text : List ℕ) : Type 0 where
   pub item : Item
   pub is : item_in frame ≡ Some item
   pub fit : fits (items_of frames) (Some item) ≡ true
   pub reply : text ≡ reply_to names (items_of frames) item
 
 -- a frame behind others doesn't fit
-abbrev pub Refuses : List Raw → Raw → Type 0
-Refuses frames frame = fits (items_of frames) (item_in frame) ≡ false
+abbrev pub RefusesAttending : List Raw → Raw → Type 0
+RefusesAttending frames frame = fits (items_of frames) (item_in frame) ≡ false
 
 -- the last words behind frames: the missing lines of the last height; the status that goes with them counts those of all heights
-pub record Ends (names : List Namespace) (frames : List Raw) (text : List ℕ) (status : Status) : Type 0 where
-  pub words : text ≡ missing_lines names (items_of frames)
-  pub counted : status ≡ feed_status (min (missing_in names (items_of frames)) max_count)
+pub record EndsAttending (names : List Namespace) (frames : List Raw) (text : List ℕ) (status : Status) : Type 0 where
+  pub words : text ≡ height_missing names (items_of frames)
+  pub counted : status ≡ feed_status (min (count_missing names (items_of frames)) max_count)
 
 -- ---- talks
 
 -- the most bytes of the missing lines of a height: 105 for each namespace
-abbrev pub most_missing : List Namespace → ℕ
-most_missing names = 105 * length names
+abbrev pub most_missing_lines : List Namespace → ℕ
+most_missing_lines names = 105 * length names
 
 -- what is due in a talk where these namespaces are wanted, for a talker of which no more is seen than the status that goes with
 -- its last words
@@ -118,13 +118,13 @@ attending names = record {
   led = λ first now frames. ⊤;
   is_over = λ status. false;
   longest = λ status. max_payload;
-  most = λ status. most_missing names;
+  most = λ status. most_missing_lines names;
   takes_memory = λ status. ⊤;
   begins = λ first text. text ≡ [];
-  replies = λ first frames frame text. Replies names frames frame text;
-  refuses = λ first frames frame. Refuses frames frame;
+  replies = λ first frames frame text. RepliesAttending names frames frame text;
+  refuses = λ first frames frame. RefusesAttending frames frame;
   decides = λ first now frames text. ⊥;
-  ends = λ first now frames text. Ends names frames text now;
+  ends = λ first now frames text. EndsAttending names frames text now;
 }
 
 -- a talk about wanted namespaces: what was said to its frames and when, how it ended, and the status that goes with its last words

@@ -12,10 +12,10 @@ use Rattle.frame_payloads.specs.kinds.Names.{names_at}
 use Rattle.da_wire.specs.Reading.{Raw}
 use Rattle.da_status.specs.declared.status.Status.{Status}
 use Rattle.da_following.specs.Follow.{places_from, missing_count}
-use Rattle.da_following.specs.Heights.{said_by, fed_by}
+use Rattle.da_following.specs.Heights.{first_said, fed_by}
 use Rattle.da_attending.specs.declared.handed.Handed.{Handed}
 use Rattle.da_attending.specs.declared.handed.Handed.TheVariants.{Header, Answer}
-use Rattle.da_attending.specs.Attended.{items_of, fits, under_way, number_of, had, reply_to}
+use Rattle.da_attending.specs.Attended.{items_of, fits, height_under_way, height_number, had, reply_to}
 
 -- ---- frames
 
@@ -46,11 +46,11 @@ unknown known names = filter (λ name. not (is_listed known name)) names
 
 -- the heights before the one under way
 abbrev pub behind : List Item → List Height
-behind items = take (number_of items) (heights_of items)
+behind items = take (height_number items) (heights_of items)
 
 -- at how many places of heights nothing is had of these namespaces
-abbrev pub missing_of : List Namespace → List Height → ℕ
-missing_of names heights = missing_count (fed_by names heights) (places_from names 0 (length heights))
+abbrev pub places_missing : List Namespace → List Height → ℕ
+places_missing names heights = missing_count (fed_by names heights) (places_from names 0 (length heights))
 
 -- ---- attenders
 
@@ -65,37 +65,37 @@ pub record AttendParts : Type 0 where
   pub status : Status
 
 -- nothing was said to it yet
-pub record IsFresh (attender : AttendParts) : Type 0 where
+pub record IsFreshAttender (attender : AttendParts) : Type 0 where
   pub known : attender.known ≡ []
   pub header : attender.header ≡ None
   pub heights : attender.heights ≡ 0
   pub missing : attender.missing ≡ 0
 
 -- an attender stands for the headers and answers that it was handed, which begin with a header if there are some
-pub record Stands (attender : AttendParts) (items : List Item) : Type 0 where
+pub record AttenderStands (attender : AttendParts) (items : List Item) : Type 0 where
   pub led : heights_of items ≡ [] → items ≡ []
-  pub header : attender.header ≡ option_map (λ height. height.header) (under_way items)
+  pub header : attender.header ≡ option_map (λ height. height.header) (height_under_way items)
   pub heights : attender.heights ≡ length (heights_of items)
   pub known : (name : Namespace) → is_listed attender.names name ≡ true → is_listed attender.known name ≡ is_some (had items name)
-  pub missing : attender.missing ≡ min (missing_of attender.names (behind items)) max_count
+  pub missing : attender.missing ≡ min (places_missing attender.names (behind items)) max_count
 
 -- from the first attender on these frames led to the second: it stands for their headers and answers
 pub record HasTaken (first now : AttendParts) (frames : List Raw) : Type 0 where
   pub names : now.names ≡ first.names
-  pub stands : Stands now (items_of frames)
+  pub stands : AttenderStands now (items_of frames)
 
 -- how the lines of a namespace go on of which something comes to be had by an answer under a header: none where it isn't wanted or
 -- something is had already
 abbrev pub new_text : AttendParts → Roots → NamedAnswer → Option (List ℕ)
 new_text attender header given =
     if is_listed attender.names given.name && not (is_listed attender.known given.name)
-    then said_by header given.name (given ∷ [])
+    then first_said header given.name (given ∷ [])
     else None
 
 -- an attender took a header or an answer that fits behind those for which it stood: it stands for it too, and what is due to it was
 -- written
 pub record HasHeard (old new : AttendParts) (item : Item) (text : List ℕ) : Type 0 where
   pub names : new.names ≡ old.names
-  pub fit : (items : List Item) → Stands old items → fits items (Some item) ≡ true
-  pub stands : (items : List Item) → Stands old items → length (heights_of items) + 1 ≤ max_count → Stands new (items ++ item ∷ [])
-  pub reply : (items : List Item) → Stands old items → text ≡ reply_to old.names items item
+  pub fit : (items : List Item) → AttenderStands old items → fits items (Some item) ≡ true
+  pub stands : (items : List Item) → AttenderStands old items → length (heights_of items) + 1 ≤ max_count → AttenderStands new (items ++ item ∷ [])
+  pub reply : (items : List Item) → AttenderStands old items → text ≡ reply_to old.names items item

@@ -11,18 +11,18 @@ use Rattle.da_wire.specs.Reading.{Raw}
 use Rattle.da_wire.specs.Frames.{frames_of, bad_frame}
 use Rattle.da_status.specs.declared.status.Status.{Status}
 use Rattle.da_files.specs.Requests.{failing_from}
-use Rattle.da_following.specs.Follow.{is_followed, each_once, items_in, bad_feed, Feed, places_of, feed_lines, missing_count, Follows}
+use Rattle.da_following.specs.Follow.{is_followed, each_once, items_in, bad_feed, RunFeed, run_places, feed_lines, missing_count, Follows}
 use Rattle.da_following.specs.Heights.{fed_by}
 use Rattle.da_talk.specs.Talks.{IsBad}
 use Rattle.da_talk.specs.Told.{IsTold, IsUnfit}
-use Rattle.da_attending.specs.Attended.{item_in, items_of, fits, Ends, attending}
+use Rattle.da_attending.specs.Attended.{item_in, items_of, fits, EndsAttending, attending}
 use Rattle.da_attending.specs.Orders.{AreLinesOf}
 
 -- what was said to frames, with the last words behind them, are the lines of what their headers and answers feed, at each height those
 -- of the wanted namespaces, each once, in some order
 abbrev pub SaysLines : Type 0
 SaysLines = (names : List Namespace) (kept status : Status) (frames : List Raw) (said text : List ℕ)
-    → IsStrictlySortedBy namespace_cmp names → IsTold (attending names) kept frames said → Ends names frames text status
+    → IsStrictlySortedBy namespace_cmp names → IsTold (attending names) kept frames said → EndsAttending names frames text status
     → AreLinesOf (fed_by names (heights_of (items_of frames))) names (length (heights_of (items_of frames))) (said ++ text)
 
 -- ---- files that follow takes
@@ -39,17 +39,17 @@ TakesFiles = (bytes : List ℕ) → bad_feed bytes ≡ None
 -- what follow writes of wanted namespaces and a file, and what a talk about them says of it, are lines of one feed; with its status, up
 -- to the greatest count
 pub record SaysFeed (wanted : List Namespace) (bytes w : List ℕ) (status : Status) (said : List ℕ) (ended : Status) : Type 0 where
-  pub feed : Feed
+  pub feed : RunFeed
   pub is : IsFeedOf (Contains wanted) (items_in bytes) feed
-  pub written : w ≡ feed_lines feed (places_of wanted (items_in bytes))
+  pub written : w ≡ feed_lines feed (run_places wanted (items_in bytes))
   pub lines : AreLinesOf feed (each_once wanted) (length (heights_of (items_in bytes))) said
-  pub status_is : missing_count feed (places_of wanted (items_in bytes)) ≤ max_count → ended ≡ status
+  pub status_is : missing_count feed (run_places wanted (items_in bytes)) ≤ max_count → ended ≡ status
 
 -- so it is where all of them can be followed
 abbrev pub SaysFollowed : Type 0
 SaysFollowed = (wanted : List Namespace) (bytes w : List ℕ) (status kept ended : Status) (said text : List ℕ)
     → failing_from is_followed 0 wanted ≡ None → bad_feed bytes ≡ None → Follows wanted (items_in bytes) w status
-    → IsTold (attending (each_once wanted)) kept (frames_of bytes) said → Ends (each_once wanted) (frames_of bytes) text ended
+    → IsTold (attending (each_once wanted)) kept (frames_of bytes) said → EndsAttending (each_once wanted) (frames_of bytes) text ended
     → SaysFeed wanted bytes w status (said ++ text) ended
 
 -- ---- files that it refuses

@@ -3,15 +3,15 @@ use Rattle.std.specs.Prelude.{◌≡◌, ℕ, ◌+◌, List, [], ◌∷◌, ◌+
 use Rattle.std.specs.List.{AllByRecursion}
 use Rattle.std.specs.List.Sorted.{IsPermutation}
 use Rattle.namespace_id.specs.declared.namespaces.Namespace.{Namespace}
-use Rattle.da_following.specs.Follow.{Feed, Place, places_at, feed_lines}
+use Rattle.da_following.specs.Follow.{RunFeed, FeedPlace, places_at, feed_lines}
 
 -- the places of heights from a number on, at each the namespaces in an order of its own
-unfoldable pub places_by : ℕ → List (List Namespace) → List Place
+unfoldable pub places_by : ℕ → List (List Namespace) → List FeedPlace
 places_by number [] = []
 places_by number (order ∷ later) = places_at order number ++ places_by (number + 1) later
 
 -- these are the lines of a feed at so many heights: at each of them those of these namespaces, in some order
-pub record AreLinesOf (feed : Feed) (names : List Namespace) (count : ℕ) (text : List ℕ) : Type 0 where
+pub record AreLinesOf (feed : RunFeed) (names : List Namespace) (count : ℕ) (text : List ℕ) : Type 0 where
   pub orders : List (List Namespace)
   pub count_is : length orders ≡ count
   pub of : AllByRecursion (λ order. IsPermutation order names) orders

@@ -6,8 +6,8 @@ ghost use Rattle.namespace_id.specs.declared.namespaces.Namespace.{Namespace as 
 ghost use Rattle.da_io.specs.Faults.{max_count};
 ghost use Rattle.blob_feed.specs.Feeds.{Item, headed, answered};
 ghost use Rattle.frame_payloads.specs.Payloads.{max_payload};
-ghost use Rattle.da_attending.specs.Attended.{missing_lines, missing_in, most_missing, Replies, Refuses, Ends};
-ghost use Rattle.da_attending.specs.Attenders.{is_listed, IsFresh, Stands, HasTaken, HasHeard, new_text};
+ghost use Rattle.da_attending.specs.Attended.{height_missing, count_missing, most_missing_lines, RepliesAttending, RefusesAttending, EndsAttending};
+ghost use Rattle.da_attending.specs.Attenders.{is_listed, IsFreshAttender, AttenderStands, HasTaken, HasHeard, new_text};
 
 use crate::handed::{Handed, item_in};
 use crate::saying::{put_known, put_missing};
@@ -78,7 +78,7 @@ impl<'a> Attender<'a> {
     /// An attender to which nothing was said yet. It refuses only where there is no memory.
     pub fn new(alloc: Global, names: &'a [Namespace]) -> Result<Attender<'a>, NoMemory>
         ensures names { IfOk result (λ attender. attender.names ≡ names.now) }
-        ensures fresh { IfOk result IsFresh }
+        ensures fresh { IfOk result IsFreshAttender }
     {
         let wanted = set_of(alloc, names)?;
         Ok(Attender {
@@ -104,11 +104,11 @@ impl<'a> Attender<'a> {
     /// heights nothing is had. The count stops at 2^64 - 1.
     fn put_height(&self, text: &mut Vec<u8>) -> u64
         requires empty { text.old.items ≡ [] }
-        requires room { most_missing self.now.names ≤ vec_capacity text.old }
-        ensures written { (items : List Item) → Stands self.now items →
-            text.new.items ≡ missing_lines self.now.names items }
-        ensures counted { (items : List Item) → Stands self.now items →
-            result ≡ min (missing_in self.now.names items) max_count }
+        requires room { most_missing_lines self.now.names ≤ vec_capacity text.old }
+        ensures written { (items : List Item) → AttenderStands self.now items →
+            text.new.items ≡ height_missing self.now.names items }
+        ensures counted { (items : List Item) → AttenderStands self.now items →
+            result ≡ min (count_missing self.now.names items) max_count }
         ensures capacity { vec_capacity text.old ≤ vec_capacity text.new }
     {
         let Some(_header) = &self.header else {
@@ -122,7 +122,7 @@ impl<'a> Attender<'a> {
     /// Takes the header of the next height, and writes the missing lines of the one before it.
     fn take_header(&mut self, header: Header, text: &mut Vec<u8>)
         requires empty { text.old.items ≡ [] }
-        requires room { most_missing self.old.names ≤ vec_capacity text.old }
+        requires room { most_missing_lines self.old.names ≤ vec_capacity text.old }
         ensures heard { HasHeard self.old self.new (headed header) text.new.items }
         ensures capacity { vec_capacity text.old ≤ vec_capacity text.new }
     {
@@ -178,7 +178,7 @@ impl<'a> Attender<'a> {
 }
 
 impl<'a> Talker for Attender<'a> {
-    ghost is_fresh = { λ a. IsFresh a };
+    ghost is_fresh = { λ a. IsFreshAttender a };
 
     ghost led = { λ first now frames. HasTaken first now frames };
 
@@ -186,19 +186,19 @@ impl<'a> Talker for Attender<'a> {
 
     ghost longest = { λ a. max_payload };
 
-    ghost most = { λ a. most_missing a.names };
+    ghost most = { λ a. most_missing_lines a.names };
 
     ghost takes_memory = { λ a. ⊤ };
 
     ghost begins = { λ first text. text ≡ [] };
 
-    ghost replies = { λ first frames frame text. Replies first.names frames frame text };
+    ghost replies = { λ first frames frame text. RepliesAttending first.names frames frame text };
 
-    ghost refuses = { λ first frames frame. Refuses frames frame };
+    ghost refuses = { λ first frames frame. RefusesAttending frames frame };
 
     ghost decides = { λ first now frames text. ⊥ };
 
-    ghost ends = { λ first now frames text. Ends first.names frames text now.status };
+    ghost ends = { λ first now frames text. EndsAttending first.names frames text now.status };
 
     fn begin(&mut self, _text: &mut Vec<u8>) {}
 

@@ -5,8 +5,8 @@ ghost use Rattle.da_io.specs.declared.inputs.Ended.TheVariants as call;
 ghost use Rattle.da_io.specs.Faults.{count_on};
 ghost use Rattle.frame_payloads.specs.Payloads.{max_payload};
 ghost use Rattle.da_talk.specs.Told.{last_heard, hear_count, say_count};
-ghost use Rattle.da_attending.specs.Attended.{most_missing, Attends};
-ghost use Rattle.da_attending.specs.Attenders.{IsFresh};
+ghost use Rattle.da_attending.specs.Attended.{most_missing_lines, Attends};
+ghost use Rattle.da_attending.specs.Attenders.{IsFreshAttender};
 
 use crate::Attender;
 use da_talk::{Line, TalkEnd, talk};
@@ -26,9 +26,9 @@ pub fn attend<L: Line>(
     text: &mut Vec<u8>,
     line: &mut L,
 ) -> TalkEnd
-    requires fresh { IsFresh attender.old }
+    requires fresh { IsFreshAttender attender.old }
     requires room { 5 + max_payload ≤ vec_capacity room.old }
-    requires text { most_missing attender.old.names ≤ vec_capacity text.old }
+    requires text { most_missing_lines attender.old.names ≤ vec_capacity text.old }
     ensures talk { Attends L.Line line.old line.new attender.old.names attender.new.status result }
 
     // A failure is answered exactly where one happened, and it was the last call.

@@ -4,7 +4,7 @@ ghost use Rattle.std.specs.Prelude.{◌≡◌, ◌≤◌, ◌+◌, ◌*◌, ◌^
 ghost use Rattle.std.specs.List.{flat_map};
 ghost use Rattle.namespace_id.specs.Answers.{HasRoom};
 ghost use Rattle.da_following.specs.Follow.{place_text};
-ghost use Rattle.da_attending.specs.Attended.{lines_of, most_missing};
+ghost use Rattle.da_attending.specs.Attended.{height_lines, most_missing_lines};
 ghost use Rattle.da_attending.specs.Attenders.{unknown};
 
 use da_following::place_text;
@@ -16,7 +16,7 @@ const MISSING_SIZE: usize = 105;
 
 /// The most bytes of what is said of a height at its end: a text needs room for so many. None where that is no `usize`.
 pub fn most_missing(names: &[Namespace]) -> Option<usize>
-    ensures { MatchOption result (2 ^ 64 ≤ most_missing names.now) (λ most. most ≡ most_missing names.now) }
+    ensures { MatchOption result (2 ^ 64 ≤ most_missing_lines names.now) (λ most. most ≡ most_missing_lines names.now) }
 {
     MISSING_SIZE.checked_mul(names.len())
 }
@@ -24,7 +24,7 @@ pub fn most_missing(names: &[Namespace]) -> Option<usize>
 /// Appends the line of a namespace of which nothing is had at a height.
 fn put_missing_line(text: &mut Vec<u8>, number: u64, name: &Namespace)
     requires room { HasRoom text.old 105 }
-    ensures appended { text.new.items ≡ text.old.items ++ lines_of number name.now None }
+    ensures appended { text.new.items ≡ text.old.items ++ height_lines number name.now None }
     ensures len { vec_len text.new ≤ vec_len text.old + 105 }
     ensures capacity { vec_capacity text.old ≤ vec_capacity text.new }
 {
@@ -39,9 +39,9 @@ pub(crate) fn put_missing(
     names: &[Namespace],
     known: &BTreeSet<Namespace>,
 ) -> u64
-    requires room { HasRoom text.old (most_missing names.now) }
+    requires room { HasRoom text.old (most_missing_lines names.now) }
     ensures appended { text.new.items ≡ text.old.items ++
-        flat_map (λ name. lines_of number name None) (unknown known.now.keys names.now) }
+        flat_map (λ name. height_lines number name None) (unknown known.now.keys names.now) }
     ensures count { result ≡ length (unknown known.now.keys names.now) }
     ensures capacity { vec_capacity text.old ≤ vec_capacity text.new }
 {

@@ -15,18 +15,18 @@ use Rattle.da_wire.specs.declared.frames.Frame.{Frame}
 use Rattle.da_wire.specs.declared.frames.Frame.TheVariants.{Header}
 use Rattle.da_wire.specs.Spelling.{spelling}
 use Rattle.da_files.specs.Frames.{header_in, message_in, square_in}
-use Rattle.da_judging.specs.Verify.{answer_in, check_number, IsRefusal}
+use Rattle.da_judging.specs.Verify.{answer_in, check_number, IsAnswerRefusal}
 use Rattle.da_judging.specs.Answers.{is_answer_to}
 use Rattle.da_judging.specs.VerifyFor.{request_in, IsRefusalFor}
 use Rattle.da_c.specs.declared.replies.Reply.TheVariants.{NoHeader}
-use Rattle.da_c.specs.Replies.{Replies, Outputs, Reads, Takes, Refuses, Fits, verdict}
+use Rattle.da_c.specs.Replies.{ReplyRelation, OutputRelation, ReadsArgument, TakesArgument, RefusesReply, FitsBuffer, verdict}
 
 -- ---- judging
 
 -- da_check: whether a sample is proved under a header
-abbrev pub Checks : List ℕ → List ℕ → Replies
+abbrev pub Checks : List ℕ → List ℕ → ReplyRelation
 Checks header message =
-    Reads 0 (header_in header) (λ h. Reads 1 (message_in message)
+    ReadsArgument 0 (header_in header) (λ h. ReadsArgument 1 (message_in message)
     (λ m reply. reply ≡ verdict (option_map check_number (message_refusal h m))))
 
 -- a header and a sample are read of the bytes, and this is so of them
@@ -44,15 +44,15 @@ abbrev pub IsOwnUnder : List ℕ → List ℕ → Type 0
 IsOwnUnder header message = IsOfBoth IsOwn header message
 
 -- da_holds: whether an answer holds under a header
-abbrev pub Holds : List ℕ → List ℕ → Replies
-Holds header answer =
-    Reads 0 (header_in header) (λ h. Reads 1 (answer_in answer)
-    (λ a reply. (refusal : Option ℕ) × IsRefusal h a refusal × (reply ≡ verdict refusal)))
+abbrev pub HoldsCall : List ℕ → List ℕ → ReplyRelation
+HoldsCall header answer =
+    ReadsArgument 0 (header_in header) (λ h. ReadsArgument 1 (answer_in answer)
+    (λ a reply. (refusal : Option ℕ) × IsAnswerRefusal h a refusal × (reply ≡ verdict refusal)))
 
 -- da_verify: whether an answer is to a request, and holds under a header
-abbrev pub Verifies : List ℕ → List ℕ → List ℕ → Replies
-Verifies header answer request =
-    Reads 0 (header_in header) (λ h. Reads 1 (answer_in answer) (λ a. Reads 2 (request_in request)
+abbrev pub VerifyCall : List ℕ → List ℕ → List ℕ → ReplyRelation
+VerifyCall header answer request =
+    ReadsArgument 0 (header_in header) (λ h. ReadsArgument 1 (answer_in answer) (λ a. ReadsArgument 2 (request_in request)
     (λ r reply. (refusal : Option ℕ) × IsRefusalFor (is_answer_to r a) h a refusal × (reply ≡ verdict refusal))))
 
 -- ---- writing
@@ -66,19 +66,19 @@ abbrev pub most_header : ℕ
 most_header = 7 + 360 * greatest_width
 
 -- da_data_root: the data root of a header
-abbrev pub RootOf : List ℕ → ℕ → Outputs
-RootOf header room = Takes 0 (header_in header) (λ h. Fits (data_root_of h) room)
+abbrev pub RootCall : List ℕ → ℕ → OutputRelation
+RootCall header room = TakesArgument 0 (header_in header) (λ h. FitsBuffer (data_root_of h) room)
 
 -- the one spelling of a frame
-abbrev pub Spells : Frame → ℕ → Outputs
-Spells frame room w reply = (text : List ℕ) × (spelling frame ≡ Some text) × Fits text room w reply
+abbrev pub Spells : Frame → ℕ → OutputRelation
+Spells frame room w reply = (text : List ℕ) × (spelling frame ≡ Some text) × FitsBuffer text room w reply
 
 -- the frame of a square's header, or that the square has none
-abbrev pub Heads : SquareShares → ℕ → Outputs
-Heads square room w reply =
+abbrev pub HeaderFrame : SquareShares → ℕ → OutputRelation
+HeaderFrame square room w reply =
     ((header : headers.Roots) × IsHeaderOf header square × Spells (Header header) room w reply)
-    ⊎ (HasNoHeader square × Refuses NoHeader w reply)
+    ⊎ (HasNoHeader square × RefusesReply NoHeader w reply)
 
 -- da_header: the frame of the header of the square that the bytes are
-abbrev pub HeaderOf : List ℕ → ℕ → Outputs
-HeaderOf square room = Takes 0 (square_in square) (λ s. Heads s room)
+abbrev pub HeaderCall : List ℕ → ℕ → OutputRelation
+HeaderCall square room = TakesArgument 0 (square_in square) (λ s. HeaderFrame s room)

@@ -4,8 +4,8 @@
 //! caller has to keep to is in `include/da.h`.
 
 ghost use Rattle.std.specs.Prelude.{◌≡◌, ◌≢◌, ◌≤◌, length};
-ghost use Rattle.da_c.specs.Replies.{IsExact, Answers, Writes};
-ghost use Rattle.da_c.specs.Calls.{Checks, IsProvedUnder, IsOwnUnder, Holds, Verifies, root_size, most_header, RootOf, HeaderOf};
+ghost use Rattle.da_c.specs.Replies.{IsExact, AnswersReply, WritesReply};
+ghost use Rattle.da_c.specs.Calls.{Checks, IsProvedUnder, IsOwnUnder, HoldsCall, VerifyCall, root_size, most_header, RootCall, HeaderCall};
 
 use crate::judging::{check, holds, verify};
 use crate::replies::{Detail, tell};
@@ -17,7 +17,7 @@ use std::alloc::Global;
 /// the first that isn't. 5, out of memory, comes only where the header is in its form.
 #[unsafe(no_mangle)]
 pub extern "C" fn da_check(alloc: Global, header: &[u8], message: &[u8], detail: &mut Detail) -> u32
-    ensures answers { Answers (Checks header.now message.now) result detail.new }
+    ensures answers { AnswersReply (Checks header.now message.now) result detail.new }
 
     // Unless memory runs out 0 comes exactly for a sample that is proved, and then, under the header of a
     // square, it shows the square's own share, or they name a collision.
@@ -31,7 +31,7 @@ pub extern "C" fn da_check(alloc: Global, header: &[u8], message: &[u8], detail:
 /// `da verify HEADER ANSWER` does.
 #[unsafe(no_mangle)]
 pub extern "C" fn da_holds(alloc: Global, header: &[u8], answer: &[u8], detail: &mut Detail) -> u32
-    ensures { Answers (Holds header.now answer.now) result detail.new }
+    ensures { AnswersReply (HoldsCall header.now answer.now) result detail.new }
 {
     tell(holds(alloc, header, answer), detail)
 }
@@ -46,7 +46,7 @@ pub extern "C" fn da_verify(
     request: &[u8],
     detail: &mut Detail,
 ) -> u32
-    ensures { Answers (Verifies header.now answer.now request.now) result detail.new }
+    ensures { AnswersReply (VerifyCall header.now answer.now request.now) result detail.new }
 {
     tell(verify(alloc, header, answer, request), detail)
 }
@@ -60,7 +60,7 @@ pub extern "C" fn da_data_root(
     buffer: &mut [u8],
     detail: &mut Detail,
 ) -> u32
-    ensures writes { Writes (RootOf header.now (length buffer.old)) buffer.old buffer.new result
+    ensures writes { WritesReply (RootCall header.now (length buffer.old)) buffer.old buffer.new result
         detail.new }
     ensures room { root_size ≤ length buffer.old → result ≢ 15 }
 {
@@ -77,7 +77,7 @@ pub extern "C" fn da_header(
     buffer: &mut [u8],
     detail: &mut Detail,
 ) -> u32
-    ensures writes { Writes (HeaderOf square.now (length buffer.old)) buffer.old buffer.new result
+    ensures writes { WritesReply (HeaderCall square.now (length buffer.old)) buffer.old buffer.new result
         detail.new }
 
     // In a buffer for the frame of the header of the greatest width each fits.

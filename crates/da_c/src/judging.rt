@@ -1,8 +1,8 @@
 //! What is judged under a header.
 
 ghost use Rattle.std.specs.Prelude.{◌≡◌};
-ghost use Rattle.da_c.specs.Replies.{status_of, IsExact};
-ghost use Rattle.da_c.specs.Calls.{Checks, IsProvedUnder, IsOwnUnder, Holds, Verifies};
+ghost use Rattle.da_c.specs.Replies.{reply_status, IsExact};
+ghost use Rattle.da_c.specs.Calls.{Checks, IsProvedUnder, IsOwnUnder, HoldsCall, VerifyCall};
 
 use crate::replies::{Reply, unread_reply, verdict};
 use axis_roots::opens;
@@ -20,8 +20,8 @@ const REQUEST: u32 = 2;
 /// Whether a sample is proved under a header.
 pub(crate) fn check(alloc: Global, header: &[u8], message: &[u8]) -> Reply
     ensures reply { Checks header.now message.now result }
-    ensures proved { IsExact (IsProvedUnder header.now message.now) (status_of result) }
-    ensures own { status_of result ≡ 0 → IsOwnUnder header.now message.now }
+    ensures proved { IsExact (IsProvedUnder header.now message.now) (reply_status result) }
+    ensures own { reply_status result ≡ 0 → IsOwnUnder header.now message.now }
 {
     let header = match header_in(alloc, header) {
         Ok(header) => header,
@@ -39,7 +39,7 @@ pub(crate) fn check(alloc: Global, header: &[u8], message: &[u8]) -> Reply
 
 /// Whether an answer holds under a header, whatever was asked.
 pub(crate) fn holds(alloc: Global, header: &[u8], answer: &[u8]) -> Reply
-    ensures { Holds header.now answer.now result }
+    ensures { HoldsCall header.now answer.now result }
 {
     let header = match header_in(alloc, header) {
         Ok(header) => header,
@@ -57,7 +57,7 @@ pub(crate) fn holds(alloc: Global, header: &[u8], answer: &[u8]) -> Reply
 
 /// Whether an answer is to a request, and holds under a header.
 pub(crate) fn verify(alloc: Global, header: &[u8], answer: &[u8], request: &[u8]) -> Reply
-    ensures { Verifies header.now answer.now request.now result }
+    ensures { VerifyCall header.now answer.now request.now result }
 {
     let header = match header_in(alloc, header) {
         Ok(header) => header,

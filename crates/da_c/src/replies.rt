@@ -1,7 +1,7 @@
 //! How a call ends, as C sees it: a status, and what goes with it.
 
 ghost use Rattle.std.specs.Prelude.{◌≡◌};
-ghost use Rattle.da_c.specs.Replies.{unread_reply, verdict, status_of, detail_of};
+ghost use Rattle.da_c.specs.Replies.{unread_reply, verdict, reply_status, detail_of};
 
 use da_files::Unread;
 
@@ -58,7 +58,7 @@ pub(crate) fn verdict(refusal: Option<u64>) -> Reply
 
 /// The number that stands for a reply.
 fn status_of(reply: Reply) -> u32
-    ensures { result ≡ status_of reply }
+    ensures { result ≡ reply_status reply }
 {
     match reply {
         Reply::Done(_) => 0,
@@ -96,7 +96,7 @@ fn detail_of(reply: Reply) -> Detail
 
 /// Tells the caller of a reply.
 pub(crate) fn tell(reply: Reply, detail: &mut Detail) -> u32
-    ensures status { result ≡ status_of reply }
+    ensures status { result ≡ reply_status reply }
     ensures detail { detail.new ≡ detail_of reply }
 {
     *detail = detail_of(reply);

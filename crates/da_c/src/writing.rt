@@ -2,8 +2,8 @@
 
 ghost use Rattle.std.specs.Prelude.{◌≡◌, ◌≢◌, ◌≤◌, ℕ, List, IsSome, Some, length};
 ghost use Rattle.da_wire.specs.Spelling.{spelling};
-ghost use Rattle.da_c.specs.Replies.{status_of, Fits, OrFull, Leaves};
-ghost use Rattle.da_c.specs.Calls.{root_size, most_header, RootOf, Spells, Heads, HeaderOf};
+ghost use Rattle.da_c.specs.Replies.{reply_status, FitsBuffer, OrFull, LeavesBuffer};
+ghost use Rattle.da_c.specs.Calls.{root_size, most_header, RootCall, Spells, HeaderFrame, HeaderCall};
 
 use crate::judging::HEADER;
 use crate::replies::{Reply, unread_reply};
@@ -20,8 +20,8 @@ const SQUARE: u32 = 0;
 
 /// Writes a text to the front of a buffer, where it fits there.
 fn put(text: &[u8], buffer: &mut [u8]) -> Reply
-    ensures leaves { Leaves (Fits text.now (length buffer.old)) buffer.old buffer.new result }
-    ensures room { length text.now ≤ length buffer.old → status_of result ≢ 15 }
+    ensures leaves { LeavesBuffer (FitsBuffer text.now (length buffer.old)) buffer.old buffer.new result }
+    ensures room { length text.now ≤ length buffer.old → reply_status result ≢ 15 }
 {
     if buffer.len() < text.len() {
         return Reply::Short(text.len() as u64);
@@ -32,8 +32,8 @@ fn put(text: &[u8], buffer: &mut [u8]) -> Reply
 
 /// Writes the data root of a header.
 pub(crate) fn root(alloc: Global, header: &[u8], buffer: &mut [u8]) -> Reply
-    ensures leaves { Leaves (RootOf header.now (length buffer.old)) buffer.old buffer.new result }
-    ensures room { root_size ≤ length buffer.old → status_of result ≢ 15 }
+    ensures leaves { LeavesBuffer (RootCall header.now (length buffer.old)) buffer.old buffer.new result }
+    ensures room { root_size ≤ length buffer.old → reply_status result ≢ 15 }
 {
     match header_in(alloc, header) {
         Ok(header) => put(&data_root(&header), buffer),
@@ -44,9 +44,9 @@ pub(crate) fn root(alloc: Global, header: &[u8], buffer: &mut [u8]) -> Reply
 /// Writes the one spelling of a frame.
 fn put_frame(alloc: Global, frame: &Frame, buffer: &mut [u8]) -> Reply
     requires { IsSome (spelling frame.now) }
-    ensures leaves { Leaves (OrFull (Spells frame.now (length buffer.old))) buffer.old buffer.new result }
+    ensures leaves { LeavesBuffer (OrFull (Spells frame.now (length buffer.old))) buffer.old buffer.new result }
     ensures room { (text : List ℕ) → spelling frame.now ≡ Some text →
-        length text ≤ length buffer.old → status_of result ≢ 15 }
+        length text ≤ length buffer.old → reply_status result ≢ 15 }
 {
     let mut text = Vec::new(alloc);
     match write_frame(frame, &mut text) {
@@ -59,8 +59,8 @@ fn put_frame(alloc: Global, frame: &Frame, buffer: &mut [u8]) -> Reply
 
 /// Writes the frame of a square's header, if it has one.
 fn put_header(alloc: Global, square: &Square, buffer: &mut [u8]) -> Reply
-    ensures leaves { Leaves (OrFull (Heads square.now (length buffer.old))) buffer.old buffer.new result }
-    ensures room { most_header ≤ length buffer.old → status_of result ≢ 15 }
+    ensures leaves { LeavesBuffer (OrFull (HeaderFrame square.now (length buffer.old))) buffer.old buffer.new result }
+    ensures room { most_header ≤ length buffer.old → reply_status result ≢ 15 }
 {
     match header_of_square(alloc, square) {
         Ok(Some(header)) => put_frame(alloc, &header_frame(header), buffer),
@@ -71,8 +71,8 @@ fn put_header(alloc: Global, square: &Square, buffer: &mut [u8]) -> Reply
 
 /// Writes the frame of the header of the square that bytes are.
 pub(crate) fn header(alloc: Global, square: &[u8], buffer: &mut [u8]) -> Reply
-    ensures leaves { Leaves (HeaderOf square.now (length buffer.old)) buffer.old buffer.new result }
-    ensures room { most_header ≤ length buffer.old → status_of result ≢ 15 }
+    ensures leaves { LeavesBuffer (HeaderCall square.now (length buffer.old)) buffer.old buffer.new result }
+    ensures room { most_header ≤ length buffer.old → reply_status result ≢ 15 }
 {
     match square_in(alloc, square) {
         Ok(square) => put_header(alloc, &square, buffer),

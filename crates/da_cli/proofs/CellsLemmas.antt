@@ -21,7 +21,7 @@ use Rattle.da_files.specs.Contents.{file_of}
 use Rattle.da_files.proofs.FileLemmas.{value_single, some_there}
 use Rattle.da_files.proofs.FormLemmas.{over_is}
 use Rattle.da_serving.specs.Wanted.{missing_in, Wants, WantedOf}
-use Rattle.da_judging.specs.Light.{events_in, Answers, Counted, Judges}
+use Rattle.da_judging.specs.Light.{events_in, GivesLight, Counted, Judges}
 use Rattle.da_commands.specs.Cells.{Asks, AsksPlanned, AsksFirst}
 use Rattle.da_cli.specs.Laws.{IsWantedFirst}
 
@@ -65,14 +65,14 @@ module _ (spelled : (cells : CellList) → AreCells cells → cells.list ≢ [] 
 
   -- what is wanted of cells that are waited for is asked for
   wanted_asked : (axis : Axis) (header : Roots) (plan : List Cell) (verdict : Light) (missing w : List ℕ) (n : ℕ)
-      → IsLight header plan [] verdict → Answers verdict missing (Waiting n) → WantedOf axis (missing ∷ []) w Done → Asks axis verdict w Done
+      → IsLight header plan [] verdict → GivesLight verdict missing (Waiting n) → WantedOf axis (missing ∷ []) w Done → Asks axis verdict w Done
   wanted_asked axis header plan light.Available missing w n is answers wanted = absurd cc
   wanted_asked axis header plan (light.Waiting cells) missing w n is answers wanted =
       (wanted_of axis cells missing w is.2.row_major answers.0).0 wanted
   wanted_asked axis header plan (light.Rejected claim) missing w n is answers wanted = absurd cc
 
   -- where no cell is waited for, nothing is asked for
-  none_asked : (axis : Axis) (verdict : Light) (text w : List ℕ) → Answers verdict text Done → w ≡ [] → Asks axis verdict w Done
+  none_asked : (axis : Axis) (verdict : Light) (text w : List ℕ) → GivesLight verdict text Done → w ≡ [] → Asks axis verdict w Done
   none_asked axis light.Available text w answers none = (none, refl)
   none_asked axis (light.Waiting cells) text w answers none = absurd cc
   none_asked axis (light.Rejected claim) text w answers none = absurd cc

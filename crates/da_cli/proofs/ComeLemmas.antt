@@ -9,7 +9,7 @@ use Rattle.da_io.specs.Faults.{max_count, count_on}
 use Rattle.da_io.specs.Files.{Files}
 use Rattle.da_cli.specs.declared.gathering.Stop.{Stop}
 use Rattle.da_cli.specs.declared.gathering.Stop.TheVariants as stop
-use Rattle.da_cli.specs.Gathered.{Gathered, whole, long, absent, after, gathered_from, IsWord, IsLastOf, IsWithin, AllRead, Gathers, ReadsFile, StopsFile, WithinLimit, WithinLimits, count_after}
+use Rattle.da_cli.specs.Gathered.{Gathered, whole, long, absent, after, gathered_from, IsWord, IsLastOf, IsWithinLimit, AllRead, GathersFiles, ReadsFile, StopsFile, WithinLimit, WithinLimits, count_after}
 use Rattle.da_cli.specs.Streamed.{IsRead, HasCome}
 use Rattle.da_cli.proofs.GatheredLemmas.{come_on, name_at, stop_here, stop_in, all_read_on, last_on, stop_picks}
 
@@ -25,7 +25,7 @@ within_here limits names i count name picked last given Idle stop.NoMemory here 
 
 -- where memory ran out, the file picked last kept its limit, or none was picked
 pub memory_within : (limits : ℕ → ℕ) (names : List (List ℕ)) (n : ℕ) (picked : Option (List ℕ)) (last : Ended) (given : ℕ) (Idle : Type 0) → IsLastOf names n picked last
-    → (0 < n → given ≤ limits (n - 1)) → (n ≡ 0 → Idle) → Idle ⊎ IsWithin limits names picked given
+    → (0 < n → given ≤ limits (n - 1)) → (n ≡ 0 → Idle) → Idle ⊎ IsWithinLimit limits names picked given
 memory_within limits names n picked last given Idle at few idle =
     ⊎_elim (λ (k : 0 < n). inr (n - 1, (at k).0, few k)) (λ (k : n ≤ 0). inl (idle (omega (arith, k)))) (cases_lt 0 n)
 
@@ -43,7 +43,7 @@ after_none (long n) = refl
 after_none (absent n) = refl
 
 -- no name was read yet
-gathers_none : (limits : ℕ → ℕ) (told : Option Files) (names : List (List ℕ)) → Gathers limits told names 0 (Ok [])
+gathers_none : (limits : ℕ → ℕ) (told : Option Files) (names : List (List ℕ)) → GathersFiles limits told names 0 (Ok [])
 gathers_none limits None names = tt
 gathers_none limits (Some files) names = after_none (gathered_from limits files 0 names)
 
@@ -52,7 +52,7 @@ all_none limits None names = tt
 all_none limits (Some files) names = λ j h. absurd (omega arith)
 
 -- where memory ran out nothing is said of contents
-gathers_memory : (limits : ℕ → ℕ) (told : Option Files) (names : List (List ℕ)) (count : ℕ) → Gathers limits told names count (Err stop.NoMemory)
+gathers_memory : (limits : ℕ → ℕ) (told : Option Files) (names : List (List ℕ)) (count : ℕ) → GathersFiles limits told names count (Err stop.NoMemory)
 gathers_memory limits None names count = tt
 gathers_memory limits (Some files) names count = tt
 

@@ -13,7 +13,7 @@ use Rattle.axis_roots.specs.Openings.{IsProved}
 use Rattle.repair_queue.specs.Closures.{Covers}
 use Rattle.namespace_id.proofs.MemberLemmas.{contains_head, contains_cons, contains_tail, contains_none}
 use Rattle.da_wire.specs.Reading.{Raw}
-use Rattle.da_wire.specs.Frames.{message_in}
+use Rattle.da_wire.specs.Frames.{raw_message}
 use Rattle.da_judging.specs.declared.check.Finding.TheVariants.{Proved, NoMessage, Refused}
 use Rattle.da_judging.specs.Check.{is_ok}
 use Rattle.da_judging.specs.Repair.{messages_in, lies_in}
@@ -38,10 +38,10 @@ pub lies_same : (header : Roots) (frames : List Raw) → lies_among header frame
 unfolding lies_in
 lies_same header [] = refl
 lies_same header (frame ∷ later) =
-    let count : Raw → ℕ = λ g. lies_by header (message_in g) in
-    let parts : sum_by count (frame ∷ later) ≡ 0 + lies_by header (message_in frame) + sum_by count later = sum_by-append count (frame ∷ []) later in
-    let all : lies_among header (frame ∷ later) ≡ lies_by header (message_in frame) + lies_in header later = omega (arith, parts, lies_same header later) in
-    all ∙ lie_here header (message_in frame) (lies_in header later)
+    let count : Raw → ℕ = λ g. lies_by header (raw_message g) in
+    let parts : sum_by count (frame ∷ later) ≡ 0 + lies_by header (raw_message frame) + sum_by count later = sum_by-append count (frame ∷ []) later in
+    let all : lies_among header (frame ∷ later) ≡ lies_by header (raw_message frame) + lies_in header later = omega (arith, parts, lies_same header later) in
+    all ∙ lie_here header (raw_message frame) (lies_in header later)
 
 -- ---- proved samples
 
@@ -78,11 +78,11 @@ pub proved_fed : (header : Roots) → ((m : sent.Message) → IsProved header m 
 unfolding messages_in
 proved_fed header accepted [] m at proved = at
 proved_fed header accepted (frame ∷ later) m at proved =
-    fed_front header accepted (message_in frame) (messages_in later) (proved_among header later) m proved at (λ behind. proved_fed header accepted later m behind proved)
+    fed_front header accepted (raw_message frame) (messages_in later) (proved_among header later) m proved at (λ behind. proved_fed header accepted later m behind proved)
 
 -- and nothing else
 pub fed_proved : (header : Roots) (frames : List Raw) → Covers header (proved_among header frames) (messages_in frames)
 unfolding messages_in
 fed_proved header [] m at proved = at
 fed_proved header (frame ∷ later) m at proved =
-    fed_back header (message_in frame) (messages_in later) (proved_among header later) m at (λ behind. fed_proved header later m behind proved)
+    fed_back header (raw_message frame) (messages_in later) (proved_among header later) m at (λ behind. fed_proved header later m behind proved)

@@ -16,12 +16,12 @@ use Rattle.da_io.specs.Faults.{max_count, count_on}
 use Rattle.da_wire.specs.declared.streams.Pushed.TheVariants as pushed
 use Rattle.da_wire.specs.Reading.{Raw}
 use Rattle.da_wire.specs.Walks.{walk_from}
-use Rattle.da_wire.specs.Frames.{frames_of, message_in}
+use Rattle.da_wire.specs.Frames.{frames_of, raw_message}
 use Rattle.da_wire.specs.StreamParts.{StreamParts}
-use Rattle.da_wire.specs.Streams.{StandsFor, EndsFrame, FramesStay}
+use Rattle.da_wire.specs.Streams.{StreamStands, EndsFrame, FramesStay}
 use Rattle.da_cli.specs.declared.feeding.FeedFault.{FeedFault}
 use Rattle.da_cli.specs.declared.feeding.FeedFault.TheVariants.{ReadFailed, TooLong, Bad}
-use Rattle.da_cli.specs.Feeding.{proved_by, lies_by, proved_among, lies_among, HasGone, AnswersFed, Feeds, FeedsTold, EndsFed, Judges, fed_faults}
+use Rattle.da_cli.specs.Feeding.{proved_by, lies_by, proved_among, lies_among, HasGone, AnswersFed, Feeds, FeedsTold, EndsFed, JudgesFed, fed_faults}
 
 -- ---- one sample
 
@@ -43,8 +43,8 @@ accepted_by header m e = (
 
 -- a push that ended no frame
 pub gone_same : (old new : StreamParts) (Had Has : List Message → Type 0) (header : Roots) (bytes : List ℕ)
-    → ((before : List ℕ) → StandsFor old before → StandsFor new (before ++ bytes))
-    → ((before : List ℕ) → StandsFor old before → frames_of (before ++ bytes) ≡ frames_of before)
+    → ((before : List ℕ) → StreamStands old before → StreamStands new (before ++ bytes))
+    → ((before : List ℕ) → StreamStands old before → frames_of (before ++ bytes) ≡ frames_of before)
     → ((ms : List Message) → Had ms → Has ms) → HasGone old new Had Has header bytes 0
 gone_same old new Had Has header bytes stands same goes = record {
   stands = stands;
@@ -53,24 +53,24 @@ gone_same old new Had Has header bytes stands same goes = record {
 }
 
 -- one more frame among frames
-more_proved : (header : Roots) (before after : List Raw) (frame : Raw) (m : Option Message) → after ≡ before ++ frame ∷ [] → m ≡ message_in frame
+more_proved : (header : Roots) (before after : List Raw) (frame : Raw) (m : Option Message) → after ≡ before ++ frame ∷ [] → m ≡ raw_message frame
     → proved_among header after ≡ proved_among header before ++ proved_by header m
 more_proved header before after frame m e f =
-    ap (proved_among header) e ∙ flat_map-append (λ (g : Raw). proved_by header (message_in g)) before (frame ∷ [])
-    ∙ ap (λ (l : List Message). proved_among header before ++ l) (append-nil (proved_by header (message_in frame)) ∙ ap (proved_by header) (sym f))
+    ap (proved_among header) e ∙ flat_map-append (λ (g : Raw). proved_by header (raw_message g)) before (frame ∷ [])
+    ∙ ap (λ (l : List Message). proved_among header before ++ l) (append-nil (proved_by header (raw_message frame)) ∙ ap (proved_by header) (sym f))
 
-more_lies : (header : Roots) (before after : List Raw) (frame : Raw) (m : Option Message) → after ≡ before ++ frame ∷ [] → m ≡ message_in frame
+more_lies : (header : Roots) (before after : List Raw) (frame : Raw) (m : Option Message) → after ≡ before ++ frame ∷ [] → m ≡ raw_message frame
     → lies_among header after ≡ lies_among header before + lies_by header m
 more_lies header before after frame m e f =
-    let count : Raw → ℕ = λ g. lies_by header (message_in g) in
-    let all : sum_by count after ≡ sum_by count before + (0 + lies_by header (message_in frame)) =
+    let count : Raw → ℕ = λ g. lies_by header (raw_message g) in
+    let all : sum_by count after ≡ sum_by count before + (0 + lies_by header (raw_message frame)) =
     ap (sum_by count) e ∙ sum_by-append count before (frame ∷ []) in
     omega (arith, all, ap (lies_by header) f)
 
 -- a push that ended a frame, whose sample was fed where it is proved
 pub gone_frame : (old new : StreamParts) (Had Has : List Message → Type 0) (header : Roots) (bytes : List ℕ) (m : Option Message)
-    → ((before : List ℕ) → StandsFor old before → StandsFor new (before ++ bytes))
-    → ((before : List ℕ) → StandsFor old before → EndsFrame (frames_of before) (frames_of (before ++ bytes)) (pushed.Frame m))
+    → ((before : List ℕ) → StreamStands old before → StreamStands new (before ++ bytes))
+    → ((before : List ℕ) → StreamStands old before → EndsFrame (frames_of before) (frames_of (before ++ bytes)) (pushed.Frame m))
     → ((ms : List Message) → Had ms → Has (ms ++ proved_by header m)) → HasGone old new Had Has header bytes (lies_by header m)
 gone_frame old new Had Has header bytes m stands ends goes = record {
   stands = stands;
@@ -91,7 +91,7 @@ pub gone_on : (a b c : StreamParts) (A B C : List Message → Type 0) (header : 
 gone_on a b c A B C header some more lies others first second =
     let joined : (before : List ℕ) → (before ++ some) ++ more ≡ before ++ (some ++ more) = λ before. append_assoc before some more in
     record {
-      stands = λ before is. subst (λ (l : List ℕ). StandsFor c l) (joined before) (second.stands (before ++ some) (first.stands before is));
+      stands = λ before is. subst (λ (l : List ℕ). StreamStands c l) (joined before) (second.stands (before ++ some) (first.stands before is));
       fed = λ before ms is had.
           subst (λ (l : List ℕ). C (ms ++ proved_among header (frames_of l))) (joined before)
           (second.fed (before ++ some) ms (first.stands before is) (first.fed before ms is had));
@@ -109,7 +109,7 @@ IsPart old new Had Has header piece rest lies = (done : List ℕ) × (piece ≡ 
 -- at first none are
 pub part_none : (old : StreamParts) (Had : List Message → Type 0) (header : Roots) (piece : List ℕ) → IsPart old old Had Had header piece piece 0
 part_none old Had header piece =
-    ([], refl, gone_same old old Had Had header [] (λ before is. subst (StandsFor old) (sym (append-nil before)) is) (λ before is. ap frames_of (append-nil before)) (λ ms had. had))
+    ([], refl, gone_same old old Had Had header [] (λ before is. subst (StreamStands old) (sym (append-nil before)) is) (λ before is. ap frames_of (append-nil before)) (λ ms had. had))
 
 -- more of them are
 pub part_on : (a b c : StreamParts) (A B C : List Message → Type 0) (header : Roots) (piece rest : List ℕ) (count lies more : ℕ)
@@ -125,14 +125,14 @@ part_on a b c A B C header piece rest count lies more part gone = (
 -- what was read of a file, and what a session was fed with of it
 pub record HasFed (stream : StreamParts) (old new : Option (List ℕ)) (before now : ℕ) (header : Roots) (lies : ℕ) (Had Has : List Message → Type 0) : Type 0 where
   pub bytes : List ℕ
-  pub stands : StandsFor stream bytes
+  pub stands : StreamStands stream bytes
   pub moved : Consumes old new bytes
   pub counted : now ≡ count_on before (length bytes)
   pub lies_are : lies ≡ lies_among header (frames_of bytes)
   pub fed : (ms : List Message) → Had ms → Has (ms ++ proved_among header (frames_of bytes))
 
 -- at first nothing was
-pub fed_none : (stream : StreamParts) (rest : Option (List ℕ)) (given : ℕ) (header : Roots) (Had : List Message → Type 0) → StandsFor stream [] → given ≤ 18446744073709551615
+pub fed_none : (stream : StreamParts) (rest : Option (List ℕ)) (given : ℕ) (header : Roots) (Had : List Message → Type 0) → StreamStands stream [] → given ≤ 18446744073709551615
     → HasFed stream rest rest given given header 0 Had Had
 unfolding walk_from
 fed_none stream rest given header Had stands few = record {
@@ -174,7 +174,7 @@ end_on a old mid new before given now header lies Had A piece fed none moved cou
 
 -- what is answered at the end
 pub judged_feeds : (stream : StreamParts) (old new : Option (List ℕ)) (before now limit : ℕ) (header : Roots) (lies : ℕ) (Had Has : List Message → Type 0) (result : Result ℕ FeedFault)
-    → (fed : HasFed stream old new before now header lies Had Has) → stream.taken ≤ limit → Judges fed.bytes lies result
+    → (fed : HasFed stream old new before now header lies Had Has) → stream.taken ≤ limit → JudgesFed fed.bytes lies result
     → Feeds old new before now limit header (λ more. (ms : List Message) → Had ms → Has (ms ++ more)) result
 judged_feeds stream old new before now limit header lies Had Has (Ok n) fed few j = record {
   bytes = fed.bytes;
@@ -229,7 +229,7 @@ ends_fed rest (Err (TooLong n)) end = tt
 ends_fed rest (Err (Bad at)) end = end
 
 -- what is judged at the end counts no failure
-pub no_fault : (faults lies : ℕ) (bytes : List ℕ) (result : Result ℕ FeedFault) → faults ≤ max_count → Judges bytes lies result
+pub no_fault : (faults lies : ℕ) (bytes : List ℕ) (result : Result ℕ FeedFault) → faults ≤ max_count → JudgesFed bytes lies result
     → faults ≡ count_on faults (fed_faults result)
 no_fault faults lies bytes (Ok n) few j = omega (arith, few)
 no_fault faults lies bytes (Err ReadFailed) few j = absurd j
@@ -262,7 +262,7 @@ long_feeds stay stream old mid new before given now limit header lies Had Has pi
       fed = (
         proved_among header (frames_of fed.bytes),
         proved_among header later.0,
-        ap (proved_among header) later.1 ∙ flat_map-append (λ (g : Raw). proved_by header (message_in g)) (frames_of fed.bytes) later.0,
+        ap (proved_among header) later.1 ∙ flat_map-append (λ (g : Raw). proved_by header (raw_message g)) (frames_of fed.bytes) later.0,
         fed.fed,
       );
     }

@@ -10,11 +10,11 @@ use Rattle.da_io.specs.Files.{Files}
 use Rattle.da_io.specs.declared.inputs.Ended.{Ended}
 use Rattle.da_cli.specs.declared.gathering.Stop.{Stop}
 use Rattle.da_cli.specs.declared.gathering.Stop.TheVariants.{PickFault, ReadFault, TooLong, NoMemory}
-use Rattle.da_cli.specs.Words.{words_of, named}
+use Rattle.da_cli.specs.Words.{words_of, files_named}
 use Rattle.da_io.specs.Faults.{count_on}
 use Rattle.da_io.specs.declared.inputs.Ended.TheVariants as ended
 use Rattle.da_files.specs.Contents.{contents_of, file_of}
-use Rattle.da_cli.specs.Gathered.{Gathered, whole, long, absent, after, gathered_one, gathered_from, gathered, IsWord, IsLastOf, PicksIn, ReadsFile, StopsFile, Gathers, StopsIn, AllRead}
+use Rattle.da_cli.specs.Gathered.{Gathered, whole, long, absent, after, gathered_one, gathered_from, gathered, IsWord, IsLastOf, PicksIn, ReadsFile, StopsFile, GathersFiles, StopsIn, AllRead}
 use Rattle.da_cli.proofs.WordLemmas.{length-named}
 
 -- one more content in front of what is gathered after them
@@ -49,10 +49,10 @@ element_here (n ∷ names) (suc i) name h e =
 
 -- the name that word i names, and then the later ones
 pub named_here : (plain : ℕ) (words : List (String Global)) (i : ℕ) (name : String Global) → i < length words
-    → string_bytes name ≡ get_or (named plain (words_of words)) i []
-    → drop i (named plain (words_of words)) ≡ string_bytes name ∷ drop (i + 1) (named plain (words_of words))
+    → string_bytes name ≡ get_or (files_named plain (words_of words)) i []
+    → drop i (files_named plain (words_of words)) ≡ string_bytes name ∷ drop (i + 1) (files_named plain (words_of words))
 named_here plain words i name h e =
-    element_here (named plain (words_of words)) i (string_bytes name)
+    element_here (files_named plain (words_of words)) i (string_bytes name)
     (omega (arith, h, length-named plain (words_of words), length-map words string_bytes)) e
 
 -- what is gathered from a name on
@@ -78,8 +78,8 @@ beyond limits i content later h =
 
 -- one more file was read whole
 pub come_on : (limits : ℕ → ℕ) (told : Option Files) (names : List (List ℕ)) (i : ℕ) (contents : List (List ℕ)) (name content : List ℕ)
-    → Gathers limits told names i (Ok contents) → drop i names ≡ name ∷ drop (i + 1) names → ReadsFile (limits i) told name (Ok content)
-    → Gathers limits told names (i + 1) (Ok (contents ++ content ∷ []))
+    → GathersFiles limits told names i (Ok contents) → drop i names ≡ name ∷ drop (i + 1) names → ReadsFile (limits i) told name (Ok content)
+    → GathersFiles limits told names (i + 1) (Ok (contents ++ content ∷ []))
 come_on limits None names i contents name content come here read = tt
 come_on limits (Some files) names i contents name content come here read =
     let later = gathered_from limits files (i + 1) (drop (i + 1) names) in
@@ -94,7 +94,7 @@ AllGathered limits (Some files) names contents = gathered limits files names ≡
 
 -- all were read
 pub all_gathered : (limits : ℕ → ℕ) (told : Option Files) (names : List (List ℕ)) (count : ℕ) (contents : List (List ℕ))
-    → Gathers limits told names count (Ok contents) → length names ≤ count → AllGathered limits told names contents
+    → GathersFiles limits told names count (Ok contents) → length names ≤ count → AllGathered limits told names contents
 unfolding gathered_from
 all_gathered limits None names count contents come h = tt
 all_gathered limits (Some files) names count contents come h =
@@ -103,8 +103,8 @@ all_gathered limits (Some files) names count contents come h =
 
 -- file i was not read whole
 pub stop_here : (limits : ℕ → ℕ) (told : Option Files) (names : List (List ℕ)) (i count : ℕ) (contents : List (List ℕ)) (name : List ℕ) (last : Ended) (given : ℕ) (stop : Stop)
-    → Gathers limits told names i (Ok contents) → drop i names ≡ name ∷ drop (i + 1) names → ReadsFile (limits i) told name (Err stop)
-    → StopsFile (limits i) i last given stop → Gathers limits told names count (Err stop)
+    → GathersFiles limits told names i (Ok contents) → drop i names ≡ name ∷ drop (i + 1) names → ReadsFile (limits i) told name (Err stop)
+    → StopsFile (limits i) i last given stop → GathersFiles limits told names count (Err stop)
 stop_here limits None names i count contents name last given stop come here read why = tt
 stop_here limits (Some files) names i count contents name last given (PickFault j) come here read why = tt
 stop_here limits (Some files) names i count contents name last given (ReadFault j) come here read why = tt
@@ -127,23 +127,23 @@ name_at (n ∷ names) (suc i) name later e = let rest = name_at names i name lat
 pub stop_in : (limits : ℕ → ℕ) (told : Option Files) (names : List (List ℕ)) (i : ℕ) (name : List ℕ) (picked : Option (List ℕ)) (last : Ended) (given : ℕ) (stop : Stop)
     → drop i names ≡ name ∷ drop (i + 1) names → AllRead limits told names i → picked ≡ Some name → StopsFile (limits i) i last given stop
     → StopsIn limits told names picked last given stop
-stop_in limits told names i name picked last given (PickFault j) here all named why =
-    let word = subst (IsWord names i) (sym named) (name_at names i name (drop (i + 1) names) here) in
+stop_in limits told names i name picked last given (PickFault j) here all files_named why =
+    let word = subst (IsWord names i) (sym files_named) (name_at names i name (drop (i + 1) names) here) in
     (why.1, subst (λ (n : ℕ). IsWord names n picked) (sym why.0) word, subst (AllRead limits told names) (sym why.0) all)
-stop_in limits told names i name picked last given (ReadFault j) here all named why =
-    let word = subst (IsWord names i) (sym named) (name_at names i name (drop (i + 1) names) here) in
+stop_in limits told names i name picked last given (ReadFault j) here all files_named why =
+    let word = subst (IsWord names i) (sym files_named) (name_at names i name (drop (i + 1) names) here) in
     (why.1, subst (λ (n : ℕ). IsWord names n picked) (sym why.0) word, subst (AllRead limits told names) (sym why.0) all)
-stop_in limits told names i name picked last given (TooLong j) here all named why =
-    let word = subst (IsWord names i) (sym named) (name_at names i name (drop (i + 1) names) here) in
+stop_in limits told names i name picked last given (TooLong j) here all files_named why =
+    let word = subst (IsWord names i) (sym files_named) (name_at names i name (drop (i + 1) names) here) in
     (subst (λ (n : ℕ). limits n < given) (sym why.0) why.1, subst (λ (n : ℕ). IsWord names n picked) (sym why.0) word, subst (AllRead limits told names) (sym why.0) all)
-stop_in limits told names i name picked last given NoMemory here all named why = tt
+stop_in limits told names i name picked last given NoMemory here all files_named why = tt
 
 -- the name at a place was picked last
 pub last_on : (names : List (List ℕ)) (i : ℕ) (name : List ℕ) (picked : Option (List ℕ)) (last : Ended) → drop i names ≡ name ∷ drop (i + 1) names
     → picked ≡ Some name → last ≡ ended.Fine → IsLastOf names (i + 1) picked last
-last_on names i name picked last here named fine =
+last_on names i name picked last here files_named fine =
     let same : i ≡ i + 1 - 1 = omega arith in
-    λ some. (subst (λ (j : ℕ). IsWord names j picked) same (subst (IsWord names i) (sym named) (name_at names i name (drop (i + 1) names) here)), fine)
+    λ some. (subst (λ (j : ℕ). IsWord names j picked) same (subst (IsWord names i) (sym files_named) (name_at names i name (drop (i + 1) names) here)), fine)
 
 -- how many files were picked when file i was not read whole
 pub stop_picks : (limit i before now count : ℕ) (last : Ended) (given : ℕ) (stop : Stop) → i < count → StopsFile limit i last given stop
@@ -168,8 +168,8 @@ all_read_on limits (Some files) names i name content before here read = λ j hj.
     ⊎_elim
     (λ (lt : j < i). before j lt)
     (λ (same : j ≡ i).
-    let named : file_of names j ≡ name = ap (file_of names) same ∙ (name_at names i name (drop (i + 1) names) here).1 in
-    (content, ap files named ∙ read.0, subst (λ (n : ℕ). length content ≤ limits n) (sym same) read.1))
+    let files_named : file_of names j ≡ name = ap (file_of names) same ∙ (name_at names i name (drop (i + 1) names) here).1 in
+    (content, ap files files_named ∙ read.0, subst (λ (n : ℕ). length content ≤ limits n) (sym same) read.1))
     (below j i hj)
 
 -- the contents of one more file

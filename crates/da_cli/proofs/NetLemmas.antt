@@ -4,7 +4,7 @@ use Rattle.data_header.specs.Headers.{Roots}
 use Rattle.square_layout.specs.Blocks.{SquareShares}
 use Rattle.da_wire.specs.Reading.{Raw}
 use Rattle.da_script.specs.Scripts.{moves_of}
-use Rattle.da_script.specs.Plays.{items_in, item_sizes, is_refused, first_net, Tells}
+use Rattle.da_script.specs.Plays.{items_in, item_sizes, is_refused, first_net, TellsPlay}
 use Rattle.da_script.specs.Alarms.{TellsOwn}
 use Rattle.da_script.proofs.LetterLemmas.{has_c}
 use Rattle.da_script.proofs.AlarmLemmas.{says_none}
@@ -14,14 +14,14 @@ use Rattle.da_commands.specs.Net.{Limited, Nets}
 
 -- it says that a node rejects or has a collision only where an item names one, by what is known of the lines of this script
 pub nets_own : (header : Roots) (frames : List Raw) (script : List ℕ) (square : SquareShares) (w : List ℕ) (status : Status)
-    → (Tells (items_in frames) (first_net header (moves_of (length (items_in frames)) script) script) (moves_of (length (items_in frames)) script) w
+    → (TellsPlay (items_in frames) (first_net header (moves_of (length (items_in frames)) script) script) (moves_of (length (items_in frames)) script) w
     → TellsOwn (items_in frames) square w)
     → Nets header frames script w status → TellsOwn (items_in frames) square w
 nets_own header frames script square w status known answers =
     by (is_refused header.k (item_sizes frames) (moves_of (length (items_in frames)) script) script) answers
   where
     by : (over : Bool) → Limited over
-        (λ w status. Tells (items_in frames) (first_net header (moves_of (length (items_in frames)) script) script)
+        (λ w status. TellsPlay (items_in frames) (first_net header (moves_of (length (items_in frames)) script) script)
         (moves_of (length (items_in frames)) script) w × (status ≡ Done)) w status → TellsOwn (items_in frames) square w
     by true (empty, refused) = λ says. absurd (says_none w (ap has_c empty) says)
     by false (told, done) = known told

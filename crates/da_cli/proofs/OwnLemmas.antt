@@ -7,7 +7,7 @@ use Rattle.std.specs.Option.{option_map, option_map_or}
 use Rattle.std.specs.List.{AllByRecursion, Contains}
 use Rattle.namespace_id.specs.declared.namespaces.Namespace.{Namespace}
 use Rattle.namespace_id.specs.Bytes.{AreBytes}
-use Rattle.share_split.specs.Walks.{blobs_of}
+use Rattle.share_split.specs.Walks.{blobs_joined}
 use Rattle.blob_feed.specs.Feeds.{header_at, Read, IsFeedOf, shares_in, FirstNames}
 use Rattle.namespace_id.proofs.StringLemmas.{AreBytes-take, AreBytes-drop}
 use Rattle.namespace_id.proofs.ElementLemmas.{all_at}
@@ -33,8 +33,8 @@ use Rattle.da_judging.specs.Repair.{Repairs, RepairsOwn}
 use Rattle.da_judging.specs.Keys.{key_file_in}
 use Rattle.da_judging.specs.Light.{Lights, LightOf, light_key_file, JudgesOwn}
 use Rattle.da_files.specs.Requests.{namespaces_in}
-use Rattle.da_following.specs.Follow.{wanted_file, answers_file, items_in, Feed}
-use Rattle.da_judging.specs.Verify.{answer_file, answer_in, IsRefusal, verdict_line, IsOwnReply}
+use Rattle.da_following.specs.Follow.{wanted_file, answers_file, items_in, RunFeed}
+use Rattle.da_judging.specs.Verify.{answer_file, answer_in, IsAnswerRefusal, verdict_line, IsOwnReply}
 use Rattle.da_judging.specs.declared.answers.Answer.{Answer}
 use Rattle.da_judging.specs.Answers.{answer_frame, is_answer_to}
 use Rattle.da_judging.specs.VerifyFor.{IsRefusalFor}
@@ -107,7 +107,7 @@ ok_has_none (Some number) e = absurd cc
 pub are_own : (told : Option Files) (words : List (List ℕ))
     → ((header : Roots) (frame : Raw) (square : SquareShares) → AreBytes frame.payload → IsHeaderOf header square
     → finding_of header frame ≡ Proved → IsOwnFrame frame square)
-    → ((header : Roots) (answer : Answer) (square : SquareShares) → IsFrame (answer_frame answer) → IsHeaderOf header square → IsRefusal header answer None
+    → ((header : Roots) (answer : Answer) (square : SquareShares) → IsFrame (answer_frame answer) → IsHeaderOf header square → IsAnswerRefusal header answer None
     → IsOwnReply answer square)
     → ((bytes : List ℕ) (answer : Answer) → AreBytes bytes
     → (answer_in bytes ≡ Ok answer) ↔ (IsFrame (answer_frame answer) × (spelling (answer_frame answer) ≡ Some bytes)))
@@ -117,10 +117,10 @@ pub are_own : (told : Option Files) (words : List (List ℕ))
     → IsHeaderOf header square → Lights key count header frames w status → JudgesOwn square w status)
     → ((header : Roots) (claim : ClaimParts) (square : SquareShares) (w : List ℕ) (status : Status)
     → IsHeaderOf header square → CompactsJudged header claim w status → CompactsOwn claim square status)
-    → ((wanted : List Namespace) (answers : List ℕ) (feed : Feed) (number : ℕ) (name : Namespace) (read : Read) (header : Roots) (square : SquareShares)
+    → ((wanted : List Namespace) (answers : List ℕ) (feed : RunFeed) (number : ℕ) (name : Namespace) (read : Read) (header : Roots) (square : SquareShares)
     → AreBytes answers → IsFeedOf (Contains wanted) (items_in answers) feed → feed number name ≡ Some read
     → header_at (items_in answers) number ≡ Some header → IsHeaderOf header square
-    → (read ≡ blobs_of (shares_in square name)) ⊎ FirstNames (items_in answers) number name square)
+    → (read ≡ blobs_joined (shares_in square name)) ⊎ FirstNames (items_in answers) number name square)
     → ((header : Roots) (frames : List Raw) (script : List ℕ) (square : SquareShares) (w : List ℕ) (status : Status)
     → IsHeaderOf header square → Nets header frames script w status → TellsOwn (plays.items_in frames) square w)
     → ((square : SquareShares) (start count : ℕ) (w : List ℕ) → ProvesRange square start count w Done → ProvesOwn square start count w)
@@ -131,7 +131,7 @@ are_own (Some files) words found verified file repaired lit compacted followed n
       found header frame square (all_at HasBytes _ i frame (frames_fit _ fits 0) here) own (ok_is_proved (finding_of header frame) ok);
   verify = λ contents header square answer refusal command read first own fits second refused ok.
       verified header answer square ((file (answer_file contents) answer fits).0 second).0 own
-      (subst (IsRefusal header answer) (ok_has_none refusal ok) refused);
+      (subst (IsAnswerRefusal header answer) (ok_has_none refusal ok) refused);
   compact = λ contents header square claim w status command read first own second answers.
       compacted header claim square w status own
       (subst (λ (b : Result ClaimParts ℕ). MatchResult b (λ c. CompactsJudged header c w status) (λ at. ⊥)) second

@@ -12,10 +12,10 @@ use Rattle.da_commands.specs.declared.command.Command.TheVariants.{Repair}
 use Rattle.da_cli.specs.declared.words.Call.{Call}
 use Rattle.da_status.specs.declared.status.Status.{Status}
 use Rattle.da_status.specs.declared.status.Status.TheVariants.{BadInput, TooLong}
-use Rattle.da_status.specs.Statuses.{Kind, usage, fault, excess, form, request, memory, write, output, kind_of, row_of, May, IsDecided}
-use Rattle.da_cli.specs.Words.{words_of, call_of, words_before, last_file, file_words, plain_count, named, call_names, names_in, names_of}
+use Rattle.da_status.specs.Statuses.{Kind, usage, fault, excess, form, request, memory, write, output, status_kind, row_of, May, DecidesKind}
+use Rattle.da_cli.specs.Words.{words_of, call_of, words_before, last_file, file_words, plain_count, files_named, call_names, files_of_call, files_of_words}
 use Rattle.da_cli.specs.Limits.{file_limits, limits_for, limits_in, limits_of}
-use Rattle.da_cli.specs.Gathered.{Gathered, whole, long, absent, gathered, Gathers}
+use Rattle.da_cli.specs.Gathered.{Gathered, whole, long, absent, gathered, GathersFiles}
 use Rattle.da_cli.specs.declared.gathering.Stop.{Stop}
 use Rattle.da_cli.specs.declared.gathering.Stop.TheVariants as stop
 use Rattle.da_status.specs.Outcome.{Relation, Refuses, Outputs, LeavesBy, Leaves}
@@ -41,11 +41,11 @@ run_of_call words call files g e read =
 
 -- a command over files that were read whole
 pub command_told : (told : Option Files) (words : List (List ℕ)) (call : Call) (contents : List (List ℕ)) (old new : Option (List ℕ)) (status : Status)
-    → call_of words ≡ Some call → AllGathered (limits_of words) told (names_of words) contents → Leaves (Meaning call.command contents) old new status
+    → call_of words ≡ Some call → AllGathered (limits_of words) told (files_of_words words) contents → Leaves (Meaning call.command contents) old new status
     → LeavesTold told words old new status
 command_told None words call contents old new status e all leaves = tt
 command_told (Some files) words call contents old new status e all leaves =
-    let are_named : names_of words ≡ call_names call words = ap (λ (o : Option Call). names_in o words) e in
+    let are_named : files_of_words words ≡ call_names call words = ap (λ (o : Option Call). files_of_call o words) e in
     let limits : limits_of words ≡ limits_for call.command = ap limits_in e in
     let same : RunOf files words ≡ Meaning call.command contents =
     run_of_call words call files (whole contents) e (ap₂ (λ (l : ℕ → ℕ) (names : List (List ℕ)). gathered l files names) (sym limits) (sym are_named) ∙ all) in
@@ -53,34 +53,34 @@ command_told (Some files) words call contents old new status e all leaves =
 
 -- files that were not read whole
 pub stopped_told : (told : Option Files) (words : List (List ℕ)) (call : Call) (count : ℕ) (old : Option (List ℕ)) (stop : Stop)
-    → call_of words ≡ Some call → Gathers (limits_of words) told (names_of words) count (Err stop) → LeavesTold told words old old (status_of stop)
+    → call_of words ≡ Some call → GathersFiles (limits_of words) told (files_of_words words) count (Err stop) → LeavesTold told words old old (status_of stop)
 stopped_told None words call count old stop e read = tt
 stopped_told (Some files) words call count old (stop.PickFault i) e read = tt
 stopped_told (Some files) words call count old (stop.ReadFault i) e read = tt
 stopped_told (Some files) words call count old stop.NoMemory e read = ([], Appends-nil old, inl refl)
 stopped_told (Some files) words call count old (stop.TooLong i) e read =
-    let are_named : names_of words ≡ call_names call words = ap (λ (o : Option Call). names_in o words) e in
+    let are_named : files_of_words words ≡ call_names call words = ap (λ (o : Option Call). files_of_call o words) e in
     let limits : limits_of words ≡ limits_for call.command = ap limits_in e in
     let same : RunOf files words ≡ Refuses (TooLong i) =
     run_of_call words call files (long i) e (ap₂ (λ (l : ℕ → ℕ) (names : List (List ℕ)). gathered l files names) (sym limits) (sym are_named) ∙ read) in
     subst (λ (M : Relation). Outputs M old old (TooLong i)) (sym same) ([], (refl, refl), Appends-nil old)
 
 -- the names of a command's files
-names_same : (words : List (List ℕ)) (call : Call) → Some call ≡ call_of words → call_names call words ≡ names_of words
-names_same words call e = ap (λ (o : Option Call). names_in o words) e
+names_same : (words : List (List ℕ)) (call : Call) → Some call ≡ call_of words → call_names call words ≡ files_of_words words
+names_same words call e = ap (λ (o : Option Call). files_of_call o words) e
 
 -- those that were gathered by as many plain words as the command has
 pub names_by : (words some : List (String Global)) (call : Call) (plain : ℕ) → plain ≡ plain_count call.command call.files
     → words_of some ≡ file_words call.command call.files (words_of words) → Some call ≡ call_of (words_of words)
-    → named plain (words_of some) ≡ names_of (words_of words)
-names_by words some call plain is same e = ap₂ named is same ∙ names_same (words_of words) call e
+    → files_named plain (words_of some) ≡ files_of_words (words_of words)
+names_by words some call plain is same e = ap₂ files_named is same ∙ names_same (words_of words) call e
 
 -- those of repair are words as they stand
 pub repair_names : (words : List (String Global)) (call : Call) → Some call ≡ call_of (words_of words) → call.command ≡ Repair
-    → words_of (take (1 + call.files - 1) (drop 1 words)) ≡ names_of (words_of words)
+    → words_of (take (1 + call.files - 1) (drop 1 words)) ≡ files_of_words (words_of words)
 repair_names words call e is =
     names_behind 1 call.files words ∙ sym (named-all call.files (drop 1 (words_of words)))
-    ∙ ap (λ (command : Command). named (plain_count command call.files) (file_words command call.files (words_of words))) (sym is)
+    ∙ ap (λ (command : Command). files_named (plain_count command call.files) (file_words command call.files (words_of words))) (sym is)
     ∙ names_same (words_of words) call e
 
 -- as many words as are asked for
@@ -89,7 +89,7 @@ some_taken b n xs few = grind (arith, common_steps)
 
 -- as many names as a command has file words
 pub files_count : (words : List (String Global)) (call : Call) → Some call ≡ call_of (words_of words) → last_file call < length words
-    → call.files ≡ length (names_of (words_of words))
+    → call.files ≡ length (files_of_words (words_of words))
 files_count words call e few =
     let within : last_file call < length (words_of words) = omega (arith, few, length-map words string_bytes) in
     sym (sym (ap length (names_same (words_of words) call e))
@@ -142,24 +142,24 @@ decided_answer true Decided h = h
 decided_answer false Decided h = absurd h
 
 -- the kind of a status is decided
-decided : (status : Status) (k : Kind) → kind_of status ≡ k → IsDecided k → IsDecided (kind_of status)
-decided status k e h = subst IsDecided (sym e) h
+decided : (status : Status) (k : Kind) → status_kind status ≡ k → DecidesKind k → DecidesKind (status_kind status)
+decided status k e h = subst DecidesKind (sym e) h
 
 -- what a command over judged files comes to is decided by words and files
 by_judged : (o : Option (ℕ × ℕ)) (command : Command) (files : List (List ℕ)) (w : List ℕ) (status : Status)
-    → MatchOption o (AnswerOf command files w status) (λ bad. Refuses (BadInput bad.0 bad.1) w status) → IsDecided (kind_of status)
-by_judged None command files w status h = decided_answer (row_of (kind_of status)).in_form _ (answer_last command files w status h)
-by_judged (Some bad) command files w status h = decided status form (ap kind_of h.1) tt
+    → MatchOption o (AnswerOf command files w status) (λ bad. Refuses (BadInput bad.0 bad.1) w status) → DecidesKind (status_kind status)
+by_judged None command files w status h = decided_answer (row_of (status_kind status)).in_form _ (answer_last command files w status h)
+by_judged (Some bad) command files w status h = decided status form (ap status_kind h.1) tt
 
 -- what a command over gathered files comes to is decided by words and files
-by_gathered : (g : Gathered) (command : Command) (w : List ℕ) (status : Status) → CommandOf command g w status → IsDecided (kind_of status)
+by_gathered : (g : Gathered) (command : Command) (w : List ℕ) (status : Status) → CommandOf command g w status → DecidesKind (status_kind status)
 by_gathered (whole contents) command w status h = by_judged (first_bad 0 (judged_of command contents)) command contents w status h
-by_gathered (long i) command w status h = decided status excess (ap kind_of h.1) tt
+by_gathered (long i) command w status h = decided status excess (ap status_kind h.1) tt
 by_gathered (absent i) command w status h = absurd h
 
 -- what words come to is decided by words and files
-by_call : (o : Option Call) (files : Files) (words : List (List ℕ)) (w : List ℕ) (status : Status) → CallOf o files words w status → IsDecided (kind_of status)
-by_call None files words w status h = decided status usage (ap kind_of h.1) tt
+by_call : (o : Option Call) (files : Files) (words : List (List ℕ)) (w : List ℕ) (status : Status) → CallOf o files words w status → DecidesKind (status_kind status)
+by_call None files words w status h = decided status usage (ap status_kind h.1) tt
 by_call (Some call) files words w status h = by_gathered (gathered (limits_for call.command) files (call_names call words)) call.command w status h
 
 -- neither a failure nor out of memory belongs to a run
@@ -184,5 +184,5 @@ pub completes : (told : Option Files) (words : List (List ℕ)) (old new : Optio
 completes None words old new status h = tt
 completes (Some files) words old new status h = λ call contents e read fine.
     let M = AnswerOf call.command contents in
-    completes_by (kind_of status) M old new status (λ w. answer_last call.command contents w status)
+    completes_by (status_kind status) M old new status (λ w. answer_last call.command contents w status)
     (subst (λ (R : Relation). Leaves R old new status) (run_in_form files words call contents e read fine) h)

@@ -13,7 +13,7 @@ use Rattle.da_status.specs.Outcome.{Ends}
 use Rattle.da_commands.specs.Meaning.{Meaning}
 use Rattle.da_cli.specs.Run.{status_of, IsEarly}
 use Rattle.da_cli.specs.Ran.{Ran}
-use Rattle.da_cli.specs.Streamed.{HasGathered, HasCome}
+use Rattle.da_cli.specs.Streamed.{HasReadFiles, HasCome}
 use Rattle.da_cli.specs.StreamedRepair.{Streams}
 use Rattle.da_cli.proofs.RunLemmas.{repair_names}
 use Rattle.da_cli.proofs.RanLemmas.{ran_over, ran_up_to}
@@ -26,9 +26,9 @@ status_in (Err why) = status_of why
 module _ {I O : Type 0} (i : inputs.Ghosts I) (o : sink.Ghosts O) where
   -- the files of the words behind a command's own, of which there are two
   gathered_two : (words : List (String Global)) (n : ℕ) (before now : I) (r : Result (List (List ℕ)) Stop) → n ≡ 2 → HasCome i repair_limits (words_of (take 2 (drop 1 words))) 2 before now r
-      → HasGathered i repair_limits (words_of (take (1 + n - 1) (drop 1 words))) n before now r
+      → HasReadFiles i repair_limits (words_of (take (1 + n - 1) (drop 1 words))) n before now r
   gathered_two words n before now r two come =
-      subst (λ (k : ℕ). HasGathered i repair_limits (words_of (take (1 + k - 1) (drop 1 words))) k before now r) (sym two) come.gathered
+      subst (λ (k : ℕ). HasReadFiles i repair_limits (words_of (take (1 + k - 1) (drop 1 words))) k before now r) (sym two) come.gathered
 
   -- repair ended so
   pub ran_streamed : (words : List (String Global)) (call : Call) (before now : I) (old new : O) (r : Result Status Stop)

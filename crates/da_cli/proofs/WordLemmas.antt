@@ -16,7 +16,7 @@ use Rattle.da_commands.specs.Meaning.{IsRunnable}
 use Rattle.da_commands.specs.Demo.{is_trial_width}
 use Rattle.da_cli.specs.declared.words.Call.{Call}
 use Rattle.da_cli.specs.Values.{is_command, key_name}
-use Rattle.da_cli.specs.Words.{words_of, light_call, value_call, call_in, file_commands, words_before, last_file, named, reads_once, HasFiles}
+use Rattle.da_cli.specs.Words.{words_of, light_call, value_call, call_in, file_commands, words_before, last_file, files_named, reads_once, HasFiles}
 
 -- ---- the words of commands
 
@@ -131,13 +131,13 @@ key_name_other (byte ∷ rest) other = elim (cases_Bool (byte == 64)) [
 ]
 
 -- words name as many names as they are
-pub length-named : (plain : ℕ) (words : List (List ℕ)) → length (named plain words) ≡ length words
+pub length-named : (plain : ℕ) (words : List (List ℕ)) → length (files_named plain words) ≡ length words
 length-named zero words = length-map words key_name
 length-named (suc plain) [] = refl
 length-named (suc plain) (word ∷ words) = ap suc (length-named plain words)
 
 -- a word that is a name as it stands
-plain_name : (plain i : ℕ) (words : List (List ℕ)) → i < plain → i < length words → get_or (named plain words) i [] ≡ get_or words i []
+plain_name : (plain i : ℕ) (words : List (List ℕ)) → i < plain → i < length words → get_or (files_named plain words) i [] ≡ get_or words i []
 plain_name zero i words below within = absurd (omega arith)
 plain_name (suc plain) i [] below within = absurd (omega arith)
 plain_name (suc plain) zero (word ∷ words) below within = refl
@@ -145,7 +145,7 @@ plain_name (suc plain) (suc i) (word ∷ words) below within = plain_name plain 
 
 -- a word in the place of KEY
 key_behind : (plain i : ℕ) (words : List (List ℕ)) → plain ≤ i → i < length words
-    → get_or (named plain words) i [] ≡ key_name (get_or words i [])
+    → get_or (files_named plain words) i [] ≡ key_name (get_or words i [])
 key_behind zero i words above within = get_or-map key_name words i [] [] within
 key_behind (suc plain) i [] above within = absurd (omega arith)
 key_behind (suc plain) zero (word ∷ words) above within = absurd (omega arith)
@@ -153,13 +153,13 @@ key_behind (suc plain) (suc i) (word ∷ words) above within = key_behind plain 
 
 -- the name of a word in the place of KEY, by the word
 pub key_at : (plain : ℕ) (words : List (String Global)) (i : ℕ) (word : String Global) → plain ≤ i → i < length words
-    → word ≡ get_or words i word → get_or (named plain (words_of words)) i [] ≡ key_name (string_bytes word)
+    → word ≡ get_or words i word → get_or (files_named plain (words_of words)) i [] ≡ key_name (string_bytes word)
 key_at plain words i word above within is =
     key_behind plain i (words_of words) above (omega (arith, within, length-map words string_bytes))
     ∙ ap key_name (word_at words i word within is)
 
 -- every word is a name as it stands
-pub named-all : (count : ℕ) (words : List (List ℕ)) → named count (take count words) ≡ take count words
+pub named-all : (count : ℕ) (words : List (List ℕ)) → files_named count (take count words) ≡ take count words
 named-all zero words = refl
 named-all (suc count) [] = refl
 named-all (suc count) (word ∷ words) = ap (λ (l : List (List ℕ)). word ∷ l) (named-all count words)

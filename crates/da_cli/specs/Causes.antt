@@ -7,8 +7,8 @@ use Rattle.da_io.specs.Faults.{count_on}
 use Rattle.da_io.specs.Files.{Files}
 use Rattle.da_status.specs.declared.status.Status.{Status}
 use Rattle.da_status.specs.declared.status.Status.TheVariants.{PickFault, ReadFault, TooLong}
-use Rattle.da_status.specs.Statuses.{Kind, kind_of, Reading, unread, failed, exceeded, begun, finished, row_of}
-use Rattle.da_cli.specs.Gathered.{IsWord, AllRead, IsWithin}
+use Rattle.da_status.specs.Statuses.{Kind, status_kind, Reading, unread, failed, exceeded, begun, finished, row_of}
+use Rattle.da_cli.specs.Gathered.{IsWord, AllRead, IsWithinLimit}
 
 -- a failed pick or read was the last call on the inputs, of the file word with that number, and each
 -- file before it is there and within its limit, where files are told
@@ -21,9 +21,9 @@ FaultCause limits told names picked last status = ⊤
 -- was picked
 abbrev pub GivenReading : (ℕ → ℕ) → Reading → List (List ℕ) → Option (List ℕ) → ℕ → Type 0 → Type 0
 GivenReading limits unread names picked given Idle = ⊤
-GivenReading limits failed names picked given Idle = IsWithin limits names picked given
+GivenReading limits failed names picked given Idle = IsWithinLimit limits names picked given
 GivenReading limits exceeded names picked given Idle = ⊤
-GivenReading limits begun names picked given Idle = Idle ⊎ IsWithin limits names picked given
+GivenReading limits begun names picked given Idle = Idle ⊎ IsWithinLimit limits names picked given
 GivenReading limits finished names picked given Idle = 0 < length names → given ≤ limits (length names - 1)
 
 -- the file that was picked last gave no more than its limit, by the kind of the status; Idle: no file was
@@ -38,7 +38,7 @@ abbrev pub ExcessCause : (ℕ → ℕ) → Option Files → List (List ℕ) → 
 ExcessCause limits told names picked given Idle (TooLong i) = (limits i < given) × IsWord names i picked × AllRead limits told names i
 ExcessCause limits told names picked given Idle (PickFault i) = given ≤ limits i
 ExcessCause limits told names picked given Idle (ReadFault i) = given ≤ limits i
-ExcessCause limits told names picked given Idle status = GivenBy limits (kind_of status) names picked given Idle
+ExcessCause limits told names picked given Idle status = GivenBy limits (status_kind status) names picked given Idle
 
 -- a fact that is said where all files were read to their ends
 abbrev pub IfFinished : Reading → Type 0 → Type 0
@@ -70,4 +70,4 @@ abbrev pub PickCount : ℕ → ℕ → ℕ → Status → Type 0
 PickCount count before now (PickFault i) = now ≡ count_on before (i + 1)
 PickCount count before now (ReadFault i) = now ≡ count_on before (i + 1)
 PickCount count before now (TooLong i) = now ≡ count_on before (i + 1)
-PickCount count before now status = PicksBy (kind_of status) count before now
+PickCount count before now status = PicksBy (status_kind status) count before now

@@ -11,9 +11,9 @@ use Rattle.da_io.specs.declared.inputs.Ended.{Ended}
 use Rattle.da_io.specs.declared.inputs.Ended.TheVariants as ended
 use Rattle.da_io.specs.Faults.{count_on}
 use Rattle.da_wire.specs.Reading.{Raw}
-use Rattle.da_wire.specs.Frames.{frames_of, bad_frame, message_in}
+use Rattle.da_wire.specs.Frames.{frames_of, bad_frame, raw_message}
 use Rattle.da_wire.specs.StreamParts.{StreamParts}
-use Rattle.da_wire.specs.Streams.{StandsFor}
+use Rattle.da_wire.specs.Streams.{StreamStands}
 use Rattle.da_cli.specs.declared.feeding.FeedFault.{FeedFault}
 use Rattle.da_cli.specs.declared.feeding.FeedFault.TheVariants.{ReadFailed, TooLong, Bad}
 
@@ -31,21 +31,21 @@ lies_by header (Some m) = option_map_or (λ why. 1) (message_refusal header m) 0
 
 -- the proved samples among frames, in their order
 abbrev pub proved_among : Roots → List Raw → List Message
-proved_among header frames = flat_map (λ frame. proved_by header (message_in frame)) frames
+proved_among header frames = flat_map (λ frame. proved_by header (raw_message frame)) frames
 
 -- how many frames are lies
 abbrev pub lies_among : Roots → List Raw → ℕ
-lies_among header frames = sum_by (λ frame. lies_by header (message_in frame)) frames
+lies_among header frames = sum_by (λ frame. lies_by header (raw_message frame)) frames
 
 -- ---- streams
 
 -- what a stream and a session stand for after bytes: the bytes too, and the proved samples of the frames
 -- that ended with them, of which so many are lies
 pub record HasGone (old new : StreamParts) (Had Has : List Message → Type 0) (header : Roots) (bytes : List ℕ) (lies : ℕ) : Type 0 where
-  pub stands : (before : List ℕ) → StandsFor old before → StandsFor new (before ++ bytes)
-  pub fed : (before : List ℕ) (ms : List Message) → StandsFor old before → Had (ms ++ proved_among header (frames_of before))
+  pub stands : (before : List ℕ) → StreamStands old before → StreamStands new (before ++ bytes)
+  pub fed : (before : List ℕ) (ms : List Message) → StreamStands old before → Had (ms ++ proved_among header (frames_of before))
       → Has (ms ++ proved_among header (frames_of (before ++ bytes)))
-  pub lies_are : (before : List ℕ) → StandsFor old before
+  pub lies_are : (before : List ℕ) → StreamStands old before
       → lies_among header (frames_of (before ++ bytes)) ≡ lies_among header (frames_of before) + lies
 
 -- ---- files
@@ -59,11 +59,11 @@ AnswersFed header bytes limit (Err (TooLong n)) = (n ≡ limit) × (limit < leng
 AnswersFed header bytes limit (Err (Bad at)) = (length bytes ≤ limit) × (bad_frame bytes ≡ Some at)
 
 -- what is answered at the end of bytes of which so many frames are lies
-abbrev pub Judges : List ℕ → ℕ → Result ℕ FeedFault → Type 0
-Judges bytes lies (Ok n) = (bad_frame bytes ≡ None) × (n ≡ lies)
-Judges bytes lies (Err ReadFailed) = ⊥
-Judges bytes lies (Err (TooLong n)) = ⊥
-Judges bytes lies (Err (Bad at)) = bad_frame bytes ≡ Some at
+abbrev pub JudgesFed : List ℕ → ℕ → Result ℕ FeedFault → Type 0
+JudgesFed bytes lies (Ok n) = (bad_frame bytes ≡ None) × (n ≡ lies)
+JudgesFed bytes lies (Err ReadFailed) = ⊥
+JudgesFed bytes lies (Err (TooLong n)) = ⊥
+JudgesFed bytes lies (Err (Bad at)) = bad_frame bytes ≡ Some at
 
 -- what a session was fed with of them: the proved samples of all frames, after a refusal of the first of them
 abbrev pub IsFed : Roots → List ℕ → (List Message → Type 0) → Result ℕ FeedFault → Type 0

@@ -6,7 +6,7 @@ use Rattle.da_exchanging.specs.declared.forms.ImportForm.{ImportForm}
 use Rattle.da_exchanging.specs.declared.forms.ImportForm.TheVariants as from
 use Rattle.da_exchanging.specs.declared.forms.ExportForm.{ExportForm}
 use Rattle.da_exchanging.specs.declared.forms.ExportForm.TheVariants as to
-use Rattle.da_cli.specs.Values.{is_command, key_in, place_in, height_in, name_in, square_width_in}
+use Rattle.da_cli.specs.Values.{is_command, key_in, word_place, height_in, word_name, square_width_in}
 
 -- ---- import
 
@@ -18,16 +18,16 @@ import_files form = 1
 -- import sample FILE ROW COL, where ROW and COL are these words
 abbrev pub sample_form : List ℕ → List ℕ → Option ImportForm
 sample_form row col = option_map_or
-    (λ r. option_map (λ c. from.Sample (record { row = r; col = c })) (place_in col))
-    (place_in row) None
+    (λ r. option_map (λ c. from.Sample (record { row = r; col = c })) (word_place col))
+    (word_place row) None
 
 -- import row-data FILE ROW NAMESPACE, where ROW and NAMESPACE are these words
 abbrev pub row_data_form : List ℕ → List ℕ → Option ImportForm
-row_data_form row name = option_map_or (λ r. option_map (λ ns. from.RowData r ns) (name_in name)) (place_in row) None
+row_data_form row name = option_map_or (λ r. option_map (λ ns. from.RowData r ns) (word_name name)) (word_place row) None
 
 -- import namespace-data FILE HEADER NAMESPACE, where NAMESPACE is this word
 abbrev pub namespace_data_form : List ℕ → Option ImportForm
-namespace_data_form name = option_map (λ ns. from.NamespaceData ns) (name_in name)
+namespace_data_form name = option_map (λ ns. from.NamespaceData ns) (word_name name)
 
 -- import befp FILE HASH HEIGHT, where HASH and HEIGHT are these words
 abbrev pub befp_form : List ℕ → List ℕ → Option ImportForm
@@ -35,7 +35,7 @@ befp_form hash height = option_map_or (λ bytes. option_map (λ n. from.Befp byt
 
 -- import row FILE ROW, where ROW is this word
 abbrev pub row_form : List ℕ → Option ImportForm
-row_form row = option_map (λ r. from.Row r) (place_in row)
+row_form row = option_map (λ r. from.Row r) (word_place row)
 
 -- import sample-id FILE HEIGHT, where HEIGHT is this word
 abbrev pub sample_id_form : List ℕ → Option ImportForm

@@ -78,13 +78,13 @@ ReadsFile limit (Some files) name (Err NoMemory) = ⊤
 
 -- what reading the files of the first `count` names answers, where files are told: of all names these
 -- contents are gathered, and then what the later names give
-abbrev pub Gathers : (ℕ → ℕ) → Option Files → List (List ℕ) → ℕ → Result (List (List ℕ)) Stop → Type 0
-Gathers limits None names count result = ⊤
-Gathers limits (Some files) names count (Ok contents) = gathered limits files names ≡ after contents (gathered_from limits files count (drop count names))
-Gathers limits (Some files) names count (Err (TooLong i)) = gathered limits files names ≡ long i
-Gathers limits (Some files) names count (Err (PickFault i)) = ⊤
-Gathers limits (Some files) names count (Err (ReadFault i)) = ⊤
-Gathers limits (Some files) names count (Err NoMemory) = ⊤
+abbrev pub GathersFiles : (ℕ → ℕ) → Option Files → List (List ℕ) → ℕ → Result (List (List ℕ)) Stop → Type 0
+GathersFiles limits None names count result = ⊤
+GathersFiles limits (Some files) names count (Ok contents) = gathered limits files names ≡ after contents (gathered_from limits files count (drop count names))
+GathersFiles limits (Some files) names count (Err (TooLong i)) = gathered limits files names ≡ long i
+GathersFiles limits (Some files) names count (Err (PickFault i)) = ⊤
+GathersFiles limits (Some files) names count (Err (ReadFault i)) = ⊤
+GathersFiles limits (Some files) names count (Err NoMemory) = ⊤
 
 -- why reading file i, which has this name, stopped: a failure was the last call, more than the limit
 -- was given
@@ -127,8 +127,8 @@ WithinLimit limit given (Err (TooLong _)) = ⊤
 WithinLimit limit given (Err NoMemory) = given ≤ limit
 
 -- the file that was picked last is a file word, and gave no more than its limit
-abbrev pub IsWithin : (ℕ → ℕ) → List (List ℕ) → Option (List ℕ) → ℕ → Type 0
-IsWithin limits names picked given = (i : ℕ) × IsWord names i picked × (given ≤ limits i)
+abbrev pub IsWithinLimit : (ℕ → ℕ) → List (List ℕ) → Option (List ℕ) → ℕ → Type 0
+IsWithinLimit limits names picked given = (i : ℕ) × IsWord names i picked × (given ≤ limits i)
 
 -- but for an excess of length, the file that was picked last, of the first `count` names, gave no more than its
 -- limit; Idle: where memory ran out, no file was picked
@@ -137,4 +137,4 @@ WithinLimits limits names count picked given Idle (Ok _) = given ≤ limits (cou
 WithinLimits limits names count picked given Idle (Err (PickFault i)) = given ≤ limits i
 WithinLimits limits names count picked given Idle (Err (ReadFault i)) = given ≤ limits i
 WithinLimits limits names count picked given Idle (Err (TooLong i)) = ⊤
-WithinLimits limits names count picked given Idle (Err NoMemory) = Idle ⊎ IsWithin limits names picked given
+WithinLimits limits names count picked given Idle (Err NoMemory) = Idle ⊎ IsWithinLimit limits names picked given

@@ -6,7 +6,7 @@ use Rattle.da_io.specs.Files.{Files}
 use Rattle.da_cli.specs.declared.words.Call.{Call}
 use Rattle.da_status.specs.declared.status.Status.{Status}
 use Rattle.da_status.specs.declared.status.Status.TheVariants.{Done, BadInput, TooLong, Waiting}
-use Rattle.da_status.specs.Statuses.{kind_of, IsDecided}
+use Rattle.da_status.specs.Statuses.{status_kind, DecidesKind}
 use Rattle.da_cli.specs.Words.{call_of, call_names}
 use Rattle.da_cli.specs.Limits.{limits_for}
 use Rattle.da_cli.specs.Gathered.{gathered, whole, long, absent}
@@ -45,7 +45,7 @@ AbsentLaw = (files : Files) (words : List (List ℕ)) (call : Call) (i : ℕ) (w
 
 -- failures and out of memory belong to no run
 abbrev pub FailureLaw : Type 0
-FailureLaw = (files : Files) (words : List (List ℕ)) (w : List ℕ) (status : Status) → RunOf files words w status → IsDecided (kind_of status)
+FailureLaw = (files : Files) (words : List (List ℕ)) (w : List ℕ) (status : Status) → RunOf files words w status → DecidesKind (status_kind status)
 
 -- w is what wanted writes along an axis of the cells that light waits for without messages, by this key and count; where it waits
 -- for none, w is empty

@@ -8,7 +8,7 @@ use Rattle.da_status.specs.declared.status.Status.{Status}
 use Rattle.da_status.specs.declared.status.Status.TheVariants.{Usage, PickFault, ReadFault, TooLong, NoMemory}
 use Rattle.da_cli.specs.declared.gathering.Stop.{Stop}
 use Rattle.da_cli.specs.declared.gathering.Stop.TheVariants as stop
-use Rattle.da_status.specs.Statuses.{Kind, kind_of, row_of, May}
+use Rattle.da_status.specs.Statuses.{Kind, status_kind, row_of, May}
 use Rattle.da_cli.specs.Words.{call_of, call_names}
 use Rattle.da_cli.specs.Limits.{limits_for}
 use Rattle.da_cli.specs.Gathered.{Gathered, whole, long, absent, gathered}
@@ -48,7 +48,7 @@ Completes None words old new status = ⊤
 Completes (Some files) words old new status = (call : Call) (contents : List (List ℕ)) → call_of words ≡ Some call
     → gathered (limits_for call.command) files (call_names call words) ≡ whole contents
     → first_bad 0 (judged_of call.command contents) ≡ None
-    → CompletesBy (kind_of status) (AnswerOf call.command contents) old new status
+    → CompletesBy (status_kind status) (AnswerOf call.command contents) old new status
 
 -- the status of files that were not read whole
 abbrev pub status_of : Stop → Status

@@ -8,7 +8,7 @@ use Rattle.da_io.specs.Faults.{count_on}
 use Rattle.da_wire.specs.Frames.{frames_of, bad_frame}
 use Rattle.da_cli.specs.declared.gathering.Stop.{Stop}
 use Rattle.da_cli.specs.Limits.{stream_limit}
-use Rattle.da_cli.specs.Gathered.{IsLastOf, PicksIn, StopsIn, AllRead, Gathers, ReadsFile, StopsFile, count_after, WithinLimit, WithinLimits}
+use Rattle.da_cli.specs.Gathered.{IsLastOf, PicksIn, StopsIn, AllRead, GathersFiles, ReadsFile, StopsFile, count_after, WithinLimit, WithinLimits}
 use Rattle.da_cli.specs.Feeding.{proved_among, lies_among}
 
 -- the file with this number and name, which may have so many bytes, was picked and read to its end, and these are its
@@ -39,8 +39,8 @@ FeedsFile i number name before now header Grows (Ok (Err at)) =
 FeedsFile i number name before now header Grows (Err stop) = IsRead i stream_limit number name before now (Err stop)
 
 -- how reading the files of the first names ended
-pub record HasGathered {I : Type 0} (i : inputs.Ghosts I) (limits : ℕ → ℕ) (names : List (List ℕ)) (count : ℕ) (before now : I) (result : Result (List (List ℕ)) Stop) : Type 0 where
-  pub contents : Gathers limits (i.files before) names count result
+pub record HasReadFiles {I : Type 0} (i : inputs.Ghosts I) (limits : ℕ → ℕ) (names : List (List ℕ)) (count : ℕ) (before now : I) (result : Result (List (List ℕ)) Stop) : Type 0 where
+  pub contents : GathersFiles limits (i.files before) names count result
   pub stop : IfErr result (StopsIn limits (i.files before) names (i.picked now) (i.ended now) (i.given now))
   pub faults : i.faults now ≡ count_after (i.faults before) result
   pub within : 0 < count → WithinLimits limits names count (i.picked now) (i.given now) (now ≡ before) result
@@ -51,5 +51,5 @@ pub record HasGathered {I : Type 0} (i : inputs.Ghosts I) (limits : ℕ → ℕ)
 
 -- and where it didn't stop, each of them was read
 pub record HasCome {I : Type 0} (i : inputs.Ghosts I) (limits : ℕ → ℕ) (names : List (List ℕ)) (count : ℕ) (before now : I) (result : Result (List (List ℕ)) Stop) : Type 0 where
-  pub gathered : HasGathered i limits names count before now result
+  pub gathered : HasReadFiles i limits names count before now result
   pub all : IfOk result (λ (contents : List (List ℕ)). AllRead limits (i.files before) names count)

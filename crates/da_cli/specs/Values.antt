@@ -63,16 +63,16 @@ axis_in word =
     if bytes_eq word (codes "row") then Some Row else (if bytes_eq word (codes "col") then Some Col else None)
 
 -- the row or the column that a word is, from 0 to 65,535
-abbrev pub place_in : List ℕ → Option ℕ
-place_in word = number_in (2 ^ 16 - 1) word
+abbrev pub word_place : List ℕ → Option ℕ
+word_place word = number_in (2 ^ 16 - 1) word
 
 -- the height that a word is, from 1 on
 abbrev pub height_in : List ℕ → Option ℕ
 height_in word = option_map_or (λ n. if nat_le 1 n then Some n else None) (number_in (2 ^ 64 - 1) word) None
 
 -- the namespace that a word is: 29 bytes in 58 hexadecimal digits of either case
-abbrev pub name_in : List ℕ → Option Namespace
-name_in word = option_map named_by (ok_of (decode_sized word namespace_size))
+abbrev pub word_name : List ℕ → Option Namespace
+word_name word = option_map named_by (ok_of (decode_sized word namespace_size))
 
 -- the width of a square that a word is
 abbrev pub square_width_in : List ℕ → Option ℕ

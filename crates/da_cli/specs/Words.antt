@@ -165,12 +165,12 @@ plain_count (CellsBy count axis) files = 1
 plain_count command files = files
 
 -- the names that words name, of which so many are names as they stand, and the others stand in the place of KEY
-abbrev pub named : ℕ → List (List ℕ) → List (List ℕ)
-named plain words = take plain words ++ map key_name (drop plain words)
+abbrev pub files_named : ℕ → List (List ℕ) → List (List ℕ)
+files_named plain words = take plain words ++ map key_name (drop plain words)
 
 -- the names of the files of a call
 abbrev pub call_names : Call → List (List ℕ) → List (List ℕ)
-call_names call words = named (plain_count call.command call.files) (file_words call.command call.files words)
+call_names call words = files_named (plain_count call.command call.files) (file_words call.command call.files words)
 
 -- whether at most one of these names is the standard input, which can be read but once
 abbrev pub reads_once : List (List ℕ) → Bool
@@ -190,10 +190,10 @@ HasFiles Repair count = count ≡ 2
 HasFiles command count = ⊤
 
 -- the names of the files of a command, none where the words are no command
-abbrev pub names_in : Option Call → List (List ℕ) → List (List ℕ)
-names_in None words = []
-names_in (Some call) words = call_names call words
+abbrev pub files_of_call : Option Call → List (List ℕ) → List (List ℕ)
+files_of_call None words = []
+files_of_call (Some call) words = call_names call words
 
 -- the names of the files of these words, none where they are no command
-abbrev pub names_of : List (List ℕ) → List (List ℕ)
-names_of words = names_in (call_of words) words
+abbrev pub files_of_words : List (List ℕ) → List (List ℕ)
+files_of_words words = files_of_call (call_of words) words

@@ -6,13 +6,13 @@ ghost use Rattle.axis_roots.specs.declared.message.messages.Message.{Message as 
 ghost use Rattle.axis_roots.specs.Openings.{IsProved};
 ghost use Rattle.axis_roots.specs.Messages.{message_refusal};
 ghost use Rattle.repair_queue.specs.Closures.{Covers};
-ghost use Rattle.repair_queue.specs.SessionParts.{StandsFor as SessionStands};
+ghost use Rattle.repair_queue.specs.SessionParts.{SessionStands};
 ghost use Rattle.da_wire.specs.Reading.{Raw};
 ghost use Rattle.da_judging.specs.Repair.{messages_in, lies_in};
 ghost use Rattle.da_io.specs.Faults.{count_on};
 ghost use Rattle.da_cli.specs.Limits.{stream_limit};
-ghost use Rattle.da_cli.specs.Feeding.{proved_by, lies_by, proved_among, lies_among, HasGone, Feeds, FeedsTold, EndsFed, fed_faults, fed_end, Judges};
-ghost use Rattle.da_wire.specs.Streams.{StandsFor, offset_of};
+ghost use Rattle.da_cli.specs.Feeding.{proved_by, lies_by, proved_among, lies_among, HasGone, Feeds, FeedsTold, EndsFed, fed_faults, fed_end, JudgesFed};
+ghost use Rattle.da_wire.specs.Streams.{StreamStands, offset_of};
 
 use axis_roots::{Message, message_law, message_laws};
 use da_io::{Inputs, PIECE_SIZE};
@@ -125,7 +125,7 @@ fn offset(error: FrameError) -> u64
 
 /// What is answered at the end of a file, where so many of its frames are lies.
 fn judged(stream: &FrameStream, lies: u64) -> Result<u64, FeedFault>
-    ensures { (bytes : List ℕ) → StandsFor stream.now bytes → Judges bytes lies result }
+    ensures { (bytes : List ℕ) → StreamStands stream.now bytes → JudgesFed bytes lies result }
 {
     match stream.end() {
         None => Ok(lies),

@@ -3,10 +3,10 @@
 ghost use Rattle.std.specs.Prelude.{◌≡◌, ◌≤◌, ◌<◌, length, IfErr, IfOk, Some, Ok, Err};
 ghost use Rattle.std.specs.String.{string_bytes};
 ghost use Rattle.da_cli.specs.Limits.{file_limit, file_limits};
-ghost use Rattle.da_cli.specs.Words.{words_of, named};
+ghost use Rattle.da_cli.specs.Words.{words_of, files_named};
 ghost use Rattle.da_io.specs.Faults.{count_on};
 ghost use Rattle.da_io.specs.declared.inputs.Ended.TheVariants.{Fine};
-ghost use Rattle.da_cli.specs.Gathered.{bytes_read, files_read, IsLastOf, PicksIn, ReadsFile, StopsFile, Gathers, StopsIn, count_after, WithinLimit, WithinLimits};
+ghost use Rattle.da_cli.specs.Gathered.{bytes_read, files_read, IsLastOf, PicksIn, ReadsFile, StopsFile, GathersFiles, StopsIn, count_after, WithinLimit, WithinLimits};
 
 use crate::words::name_at;
 use da_io::{InputFault, Inputs, read_all};
@@ -63,16 +63,16 @@ pub(crate) fn gather<I: Inputs>(
 ) -> Result<Vec<Vec<u8>>, Stop>
     requires few { length words.now < 16 }
     requires count { count ≤ length words.now }
-    ensures contents { Gathers file_limits (I.files inputs.old)
-        (named plain (words_of words.now)) count (files_read result) }
+    ensures contents { GathersFiles file_limits (I.files inputs.old)
+        (files_named plain (words_of words.now)) count (files_read result) }
     ensures stop { IfErr result (StopsIn file_limits (I.files inputs.old)
-        (named plain (words_of words.now)) (I.picked inputs.new) (I.ended inputs.new)
+        (files_named plain (words_of words.now)) (I.picked inputs.new) (I.ended inputs.new)
         (I.given inputs.new)) }
     ensures faults { I.faults inputs.new ≡ count_after (I.faults inputs.old) result }
     ensures within { 0 < count →
-        WithinLimits file_limits (named plain (words_of words.now)) count (I.picked inputs.new)
+        WithinLimits file_limits (files_named plain (words_of words.now)) count (I.picked inputs.new)
         (I.given inputs.new) (inputs.new ≡ inputs.old) (files_read result) }
-    ensures last { IfOk result (λ _. IsLastOf (named plain (words_of words.now)) count
+    ensures last { IfOk result (λ _. IsLastOf (files_named plain (words_of words.now)) count
         (I.picked inputs.new) (I.ended inputs.new)) }
     ensures picks { PicksIn (I.picks inputs.old) (I.picks inputs.new) count result }
     ensures idle { count ≡ 0 → inputs.new ≡ inputs.old }

@@ -5,10 +5,10 @@ ghost use Rattle.std.specs.List.{AllByRecursion, filter, Contains};
 ghost use Rattle.namespace_id.specs.declared.cells.Axis.{Axis};
 ghost use Rattle.namespace_id.specs.Bytes.{AreBytes};
 ghost use Rattle.namespace_id.specs.Shares.{AreShares};
-ghost use Rattle.share_split.specs.Walks.{blobs_of};
+ghost use Rattle.share_split.specs.Walks.{blobs_joined};
 ghost use Rattle.blob_feed.specs.Feeds.{Item, header_at, Read, IsFeedOf, shares_in, FirstNames};
 ghost use Rattle.square_layout.specs.Blocks.{BlockParts, SquareShares, IsSquare, IsBlock};
-ghost use Rattle.square_layout.specs.Layout.{square_of};
+ghost use Rattle.square_layout.specs.Layout.{block_square};
 ghost use Rattle.square_layout.specs.Refusals.{layout_refusal};
 ghost use Rattle.tx_list.specs.Reads.{list_of};
 ghost use Rattle.tx_list.specs.Lists.{square_of_list};
@@ -44,17 +44,17 @@ ghost use Rattle.da_commands.specs.Net.{Nets};
 ghost use Rattle.da_serving.specs.Build.{list_refusal};
 ghost use Rattle.da_commands.specs.Cells.{AsksFirst};
 ghost use Rattle.da_serving.specs.Prove.{ProvesRange};
-ghost use Rattle.da_serving.specs.Sample.{sample_frame, samples_in};
+ghost use Rattle.da_serving.specs.Sample.{sample_request, samples_in};
 ghost use Rattle.da_files.specs.Requests.{namespaces_in};
 ghost use Rattle.da_judging.specs.declared.answers.Answer.{Answer};
 ghost use Rattle.da_judging.specs.declared.answers.Answer.TheVariants.{Message, Names, Fraud, Commit, Rooted};
 ghost use Rattle.da_judging.specs.declared.answers.Request as requests;
 ghost use Rattle.da_judging.specs.Answers.{answer_frame, is_answer_to, IsAnswerTo};
-ghost use Rattle.da_judging.specs.Verify.{IsRefusal, answer_in, IsOwnReply};
+ghost use Rattle.da_judging.specs.Verify.{IsAnswerRefusal, answer_in, IsOwnReply};
 ghost use Rattle.da_judging.specs.VerifyFor.{IsRefusalFor};
 ghost use Rattle.da_judging.specs.VerifyCommitment.{states_commitment, StatesCommitment};
 ghost use Rattle.da_judging.specs.Root.{root_refusal};
-ghost use Rattle.da_following.specs.Follow.{items_in, Feed, Follows};
+ghost use Rattle.da_following.specs.Follow.{items_in, RunFeed, Follows};
 ghost use Rattle.data_header.specs.DataRoots.{data_root_of};
 ghost use Rattle.blob_commit.specs.Proofs.{CommitParts, CommitHolds, RootedParts, RootedHolds};
 ghost use Rattle.da_cli.specs.Own.{ProvesOwn};
@@ -96,15 +96,15 @@ pub fn run_laws()
     // complete, a fraud claim that is accepted, or a commitment proof or a root proof that holds under
     // the header's data root.
     ensures verified { (header : Roots) (message : sent.Message) → AreRoots header →
-        IsMessage message → IsRefusal header (Message message) None ↔ IsProved header message }
+        IsMessage message → IsAnswerRefusal header (Message message) None ↔ IsProved header message }
     ensures complete { (header : Roots) (name : names.Namespace) (answer : List NsEntry) →
-        IsRefusal header (Names name answer) None ↔ IsComplete header name answer }
+        IsAnswerRefusal header (Names name answer) None ↔ IsComplete header name answer }
     ensures upheld { (header : Roots) (claim : ClaimParts) →
-        IsRefusal header (Fraud claim) None ↔ Accepts header claim }
+        IsAnswerRefusal header (Fraud claim) None ↔ Accepts header claim }
     ensures committed { (header : Roots) (proof : CommitParts) →
-        IsRefusal header (Commit proof) None ↔ CommitHolds (data_root_of header) proof }
+        IsAnswerRefusal header (Commit proof) None ↔ CommitHolds (data_root_of header) proof }
     ensures rooted_sample { (header : Roots) (proof : RootedParts) → IsMessage proof.message →
-        IsRefusal header (Rooted proof) None ↔ RootedHolds (data_root_of header) proof }
+        IsAnswerRefusal header (Rooted proof) None ↔ RootedHolds (data_root_of header) proof }
 
     // To a request an answer is not refused exactly where it is not without one and is to the request:
     // a sample, by itself or in a root proof, with the cell and the axis that are asked for, or a
@@ -112,7 +112,7 @@ pub fn run_laws()
     // where it is to another.
     ensures asked { (header : Roots) (answer : Answer) (request : requests.Request) →
         IsRefusalFor (is_answer_to request answer) header answer None
-        ↔ (IsRefusal header answer None × IsAnswerTo request answer) }
+        ↔ (IsAnswerRefusal header answer None × IsAnswerTo request answer) }
     ensures asked_other { (header : Roots) (answer : Answer) (request : requests.Request) →
         IsRefusalFor (is_answer_to request answer) header answer (Some 0)
         ↔ (is_answer_to request answer ≡ false) }
@@ -123,7 +123,7 @@ pub fn run_laws()
     // proof that states it. It is refused by the number 0, first of all, exactly where it is no such.
     ensures stated { (header : Roots) (answer : Answer) (commitment : List ℕ) →
         IsRefusalFor (states_commitment commitment answer) header answer None
-        ↔ (IsRefusal header answer None × StatesCommitment commitment answer) }
+        ↔ (IsAnswerRefusal header answer None × StatesCommitment commitment answer) }
     ensures stated_other { (header : Roots) (answer : Answer) (commitment : List ℕ) →
         IsRefusalFor (states_commitment commitment answer) header answer (Some 0)
         ↔ (states_commitment commitment answer ≡ false) }
@@ -138,7 +138,7 @@ pub fn run_laws()
     // share, exactly the square's shares of the namespace, or the commitment of the square's shares in its
     // range, or they name a collision; a fraud claim only where they name one.
     ensures own_answer { (header : Roots) (answer : Answer) (square : SquareShares) →
-        IsFrame (answer_frame answer) → IsHeaderOf header square → IsRefusal header answer None →
+        IsFrame (answer_frame answer) → IsHeaderOf header square → IsAnswerRefusal header answer None →
         IsOwnReply answer square }
 
     // Under the header of a square `compact` refuses a claim, or a sample of it, or its set, and the
@@ -189,11 +189,11 @@ pub fn run_laws()
 
     // At a height whose header is that of a square, what `follow` tells of a namespace is what the
     // square's shares of it are read as, or the first complete answer and the square name a collision.
-    ensures own_follow { (wanted : List names.Namespace) (answers : List ℕ) (feed : Feed) (number : ℕ)
+    ensures own_follow { (wanted : List names.Namespace) (answers : List ℕ) (feed : RunFeed) (number : ℕ)
         (name : names.Namespace) (read : Read) (header : Roots) (square : SquareShares) →
         AreBytes answers → IsFeedOf (Contains wanted) (items_in answers) feed →
         feed number name ≡ Some read → header_at (items_in answers) number ≡ Some header →
-        IsHeaderOf header square → (read ≡ blobs_of (shares_in square name))
+        IsHeaderOf header square → (read ≡ blobs_joined (shares_in square name))
         ⊎ FirstNames (items_in answers) number name square }
 
     // A file is read as a header, a square, a block or a list of transactions, an answer exactly where
@@ -214,7 +214,7 @@ pub fn run_laws()
     // A file of requests is exactly the spellings of the requests that are read of it, in their order.
     ensures sample_requests { (bytes : List ℕ) → AreBytes bytes →
         bad_value (sample_kind ∷ []) bytes ≡ None →
-        values_bytes (map sample_frame (samples_in bytes)) ≡ bytes }
+        values_bytes (map sample_request (samples_in bytes)) ≡ bytes }
     ensures namespace_requests { (bytes : List ℕ) → AreBytes bytes →
         bad_value (request_kind ∷ []) bytes ≡ None →
         values_bytes (map Request (namespaces_in bytes)) ≡ bytes }
@@ -222,10 +222,10 @@ pub fn run_laws()
     // The square of a block that isn't refused is read back from its spelling, and has a header. So has
     // that of a list of transactions.
     ensures built { (block : BlockParts) → IsBlock block → layout_refusal block ≡ None →
-        (text : List ℕ) × (spelling (Square (square_of block)) ≡ Some text)
-        × (square_in text ≡ Ok (square_of block)) }
+        (text : List ℕ) × (spelling (Square (block_square block)) ≡ Some text)
+        × (square_in text ≡ Ok (block_square block)) }
     ensures headed { (block : BlockParts) → IsBlock block → layout_refusal block ≡ None →
-        (header : Roots) × IsHeaderOf header (square_of block) }
+        (header : Roots) × IsHeaderOf header (block_square block) }
     ensures built_list { (transactions : List (List ℕ)) → IsOfBytes (list_of transactions) →
         list_refusal transactions ≡ None → (text : List ℕ)
         × (spelling (Square (square_of_list (list_of transactions))) ≡ Some text)

@@ -5,8 +5,8 @@ ghost use Rattle.da_status.specs.declared.status.Status.TheVariants.{Usage};
 ghost use Rattle.da_commands.specs.declared.command.Command.TheVariants as CommandOf;
 ghost use Rattle.da_commands.specs.Meaning.{IsRunnable};
 ghost use Rattle.da_cli.specs.Limits.{limits_of};
-ghost use Rattle.da_cli.specs.Words.{words_of, call_of, last_file, names_of, HasFiles};
-ghost use Rattle.da_status.specs.Statuses.{kind_of, input_count, output_count};
+ghost use Rattle.da_cli.specs.Words.{words_of, call_of, last_file, files_of_words, HasFiles};
+ghost use Rattle.da_status.specs.Statuses.{status_kind, input_count, output_count};
 ghost use Rattle.da_cli.specs.Gathered.{IsLast};
 ghost use Rattle.da_cli.specs.Causes.{FaultCause, ExcessCause, LastBy, PickCount};
 ghost use Rattle.da_status.specs.Outcome.{Untouched};
@@ -135,7 +135,7 @@ pub fn run<I: Inputs, O: Sink, N: Sink>(
     // `Usage` comes exactly where the words are no command. Where no word names a file, nothing is
     // read.
     ensures usage { (result ≡ Usage) ↔ (call_of (words_of words.now) ≡ None) }
-    ensures idle { names_of (words_of words.now) ≡ [] → inputs.new ≡ inputs.old }
+    ensures idle { files_of_words (words_of words.now) ≡ [] → inputs.new ≡ inputs.old }
 
     // What is decided before the output leaves it as it was.
     ensures untouched { Untouched (out.new ≡ out.old) result }
@@ -146,20 +146,20 @@ pub fn run<I: Inputs, O: Sink, N: Sink>(
 
     // A failed pick or read, an excess of length: of which file, and after which others.
     ensures fault { FaultCause (limits_of (words_of words.now)) (I.files inputs.old)
-        (names_of (words_of words.now)) (I.picked inputs.new) (I.ended inputs.new) result }
+        (files_of_words (words_of words.now)) (I.picked inputs.new) (I.ended inputs.new) result }
     ensures excess { ExcessCause (limits_of (words_of words.now)) (I.files inputs.old)
-        (names_of (words_of words.now)) (I.picked inputs.new) (I.given inputs.new) (inputs.new ≡ inputs.old) result }
+        (files_of_words (words_of words.now)) (I.picked inputs.new) (I.given inputs.new) (inputs.new ≡ inputs.old) result }
 
     // Failures are counted, and none is hidden behind another status.
-    ensures input_faults { I.faults inputs.new ≡ input_count (kind_of result) (I.faults inputs.old) }
-    ensures output_faults { O.faults out.new ≡ output_count (kind_of result) (O.faults out.old) }
+    ensures input_faults { I.faults inputs.new ≡ input_count (status_kind result) (I.faults inputs.old) }
+    ensures output_faults { O.faults out.new ≡ output_count (status_kind result) (O.faults out.old) }
 
     // As many picks are made as words name files, or up to the one that a status of reading names; none
     // with `Usage`, and perhaps fewer where memory ran out. Where all files were read, the last call on
     // the inputs was of the last one, and did not fail.
-    ensures picks { PickCount (length (names_of (words_of words.now))) (I.picks inputs.old)
+    ensures picks { PickCount (length (files_of_words (words_of words.now))) (I.picks inputs.old)
         (I.picks inputs.new) result }
-    ensures last { LastBy (kind_of result) (IsLast (names_of (words_of words.now))
+    ensures last { LastBy (status_kind result) (IsLast (files_of_words (words_of words.now))
         (I.picked inputs.new) (I.ended inputs.new)) }
 
     // What stays.

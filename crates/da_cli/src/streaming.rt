@@ -3,7 +3,7 @@
 ghost use Rattle.std.specs.Prelude.{◌≡◌, ◌++◌, List};
 ghost use Rattle.std.specs.String.{string_bytes};
 ghost use Rattle.axis_roots.specs.declared.message.messages.Message.{Message as Sent};
-ghost use Rattle.repair_queue.specs.SessionParts.{StandsFor as SessionStands};
+ghost use Rattle.repair_queue.specs.SessionParts.{SessionStands};
 ghost use Rattle.da_cli.specs.Streamed.{FeedsFile, Skims};
 
 use crate::feeding::{FeedFault, feed_all};

@@ -2,7 +2,7 @@
 
 ghost use Rattle.std.specs.Prelude.{◌≡◌, IfSome, true};
 ghost use Rattle.da_commands.specs.Demo.{is_trial_width};
-ghost use Rattle.da_cli.specs.Values.{is_digit, digits_in, number_in, key_in, is_key_name, key_name, width_in, axis_in, place_in, height_in, name_in, square_width_in};
+ghost use Rattle.da_cli.specs.Values.{is_digit, digits_in, number_in, key_in, is_key_name, key_name, width_in, axis_in, word_place, height_in, word_name, square_width_in};
 
 use hex::FromHex;
 use namespace_id::{Axis, GREATEST_WIDTH, NAMESPACE_SIZE, Namespace, is_width};
@@ -95,7 +95,7 @@ pub(crate) fn axis_in(word: &str) -> Option<Axis>
 
 /// The row or the column that a word is.
 pub(crate) fn place_in(word: &str) -> Option<u16>
-    ensures { result ≡ place_in word.now }
+    ensures { result ≡ word_place word.now }
 {
     let place = number_in(word, u64::from(u16::MAX))?;
     Some(place as u16)
@@ -111,7 +111,7 @@ pub(crate) fn height_in(word: &str) -> Option<u64>
 
 /// The namespace that a word is: 58 hexadecimal digits of either case.
 pub(crate) fn name_in(word: &str) -> Option<Namespace>
-    ensures { result ≡ name_in word.now }
+    ensures { result ≡ word_name word.now }
 {
     let bytes = <[u8; NAMESPACE_SIZE]>::from_hex(word).ok()?;
     Some(Namespace(bytes))

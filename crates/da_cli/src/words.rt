@@ -3,7 +3,7 @@
 ghost use Rattle.std.specs.Prelude.{◌≡◌, ◌<◌, [], get_or, length, map, IfSome};
 ghost use Rattle.da_commands.specs.Meaning.{IsRunnable};
 ghost use Rattle.da_cli.specs.Values.{is_command};
-ghost use Rattle.da_cli.specs.Words.{words_of, light_by_call, light_call, demo_call, verify_call, root_call, find_call, wanted_call, cells_by_call, cells_of_key, cells_call, prove_call, import_call, export_call, call_in, file_call, value_call, form_call, any_call, words_before, last_file, file_words, plain_count, named, call_names, reads_once, call_of, HasFiles};
+ghost use Rattle.da_cli.specs.Words.{words_of, light_by_call, light_call, demo_call, verify_call, root_call, find_call, wanted_call, cells_by_call, cells_of_key, cells_call, prove_call, import_call, export_call, call_in, file_call, value_call, form_call, any_call, words_before, last_file, file_words, plain_count, files_named, call_names, reads_once, call_of, HasFiles};
 
 use crate::forms::{export_form, import_files, import_form};
 use crate::values::{axis_in, is_key_name, key_in, key_name, number_in, width_in};
@@ -359,7 +359,7 @@ pub(crate) fn plain_count(command: Command, files: usize) -> usize
 /// others stand in the place of KEY.
 pub(crate) fn name_at(words: &[String], plain: usize, i: usize) -> &str
     requires { i < length words.now }
-    ensures { result.now ≡ get_or (named plain (words_of words.now)) i [] }
+    ensures { result.now ≡ get_or (files_named plain (words_of words.now)) i [] }
 {
     let word = words[i].as_str();
     if i < plain { word } else { key_name(word) }
@@ -367,7 +367,7 @@ pub(crate) fn name_at(words: &[String], plain: usize, i: usize) -> &str
 
 /// Whether at most one of the names that these words name is the standard input.
 fn reads_once(words: &[String], plain: usize) -> bool
-    ensures { result ≡ reads_once (named plain (words_of words.now)) }
+    ensures { result ≡ reads_once (files_named plain (words_of words.now)) }
 {
     let mut count = 0usize;
     for i in 0..words.len() {

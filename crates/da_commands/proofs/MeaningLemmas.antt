@@ -1,10 +1,10 @@
 -- What every command answers over files in their forms.
 use Rattle.std.proofs.Common.{ℕ, List}
 use Rattle.da_wire.specs.Values.{values_of}
-use Rattle.da_show.specs.Text.{text_of}
+use Rattle.da_show.specs.Text.{shown_text}
 use Rattle.da_show.specs.Json.{json_text}
 use Rattle.da_status.specs.declared.status.Status.{Status}
-use Rattle.da_status.specs.Statuses.{kind_of}
+use Rattle.da_status.specs.Statuses.{status_kind}
 use Rattle.da_status.proofs.EndLemmas.{IsAnswer, answer_output, status_answers}
 use Rattle.da_commands.specs.declared.command.Command.{Command}
 use Rattle.da_commands.specs.declared.command.Command.TheVariants.{Check, Build, Header, Sample, Namespace, Verify, Compact, Repair, Light, LightBy, Net, Show, Json, Demo, VerifyCommitment, VerifyFor, Root, RootIs, Wanted, Cells, CellsBy, Blobs, Transactions, Find, Commit, Prove, ProveRange, Follow, Import, Export, Help, Version}
@@ -36,7 +36,7 @@ use Rattle.da_following.proofs.FollowLemmas.{follow_answers}
 use Rattle.da_exchanging.proofs.FormLemmas.{import_answers, export_answers}
 
 -- a command's answer comes with its output, or refuses what the files ask for
-pub answer_last : (command : Command) (files : List (List ℕ)) (w : List ℕ) (status : Status) → AnswerOf command files w status → IsAnswer (kind_of status)
+pub answer_last : (command : Command) (files : List (List ℕ)) (w : List ℕ) (status : Status) → AnswerOf command files w status → IsAnswer (status_kind status)
 answer_last Check files w status h = answer_output status (check_last files w status h)
 answer_last Build files w status h = build_answers files w status h
 answer_last Header files w status h = header_answers files w status h
@@ -48,7 +48,7 @@ answer_last Repair files w status h = answer_output status (repair_last files w 
 answer_last (Light key count) files w status h = light_answers key count files w status h
 answer_last (LightBy count) files w status h = light_by_answers count files w status h
 answer_last Net files w status h = net_answers files w status h
-answer_last Show files w status h = shows_answers text_of (values_of all_kinds (shown_file files)) w status h
+answer_last Show files w status h = shows_answers shown_text (values_of all_kinds (shown_file files)) w status h
 answer_last Json files w status h = shows_answers json_text (values_of all_kinds (shown_file files)) w status h
 answer_last (Demo number k) files w status h = demo_answers number k w status h
 answer_last (VerifyCommitment commitment) files w status h = answer_output status (verify_commitment_last commitment files w status h)

@@ -36,12 +36,12 @@ abbrev pub number_line : List ℕ → ℕ → List ℕ
 number_line name number = name ++ decimal number ++ codes "\n"
 
 -- the line of a data root
-abbrev pub root_line : List ℕ → List ℕ
-root_line root = codes "root " ++ encode_lower root ++ codes "\n"
+abbrev pub trial_root_line : List ℕ → List ℕ
+trial_root_line root = codes "root " ++ encode_lower root ++ codes "\n"
 
 -- the line of what a repair came to
-abbrev pub verdict_line : Outcome → List ℕ
-verdict_line told = codes "verdict " ++ outcome_word told ++ codes "\n"
+abbrev pub outcome_line : Outcome → List ℕ
+outcome_line told = codes "verdict " ++ outcome_word told ++ codes "\n"
 
 -- the line of whether a fraud proof was accepted
 abbrev pub upheld_line : Upheld → List ℕ
@@ -53,11 +53,11 @@ trial_lines trial =
     number_line (codes "width ") trial.k
     ∷ number_line (codes "shares ") (trial.k * trial.k)
     ∷ number_line (codes "blobs ") trial.blobs
-    ∷ root_line trial.root
+    ∷ trial_root_line trial.root
     ∷ number_line (codes "proved ") trial.proved
     ∷ number_line (codes "lies ") trial.lies
-    ∷ verdict_line trial.first
-    ∷ verdict_line trial.second
+    ∷ outcome_line trial.first
+    ∷ outcome_line trial.second
     ∷ upheld_line trial.upheld ∷ []
 
 -- what is written of a trial
@@ -65,8 +65,8 @@ abbrev pub trial_bytes : Trial → List ℕ
 trial_bytes trial = flat_map (λ line. line) (trial_lines trial)
 
 -- these lines are written, and the output is complete
-abbrev pub Tells : Trial → Relation
-Tells trial w status = (w ≡ trial_bytes trial) × (status ≡ Done)
+abbrev pub TellsTrial : Trial → Relation
+TellsTrial trial w status = (w ≡ trial_bytes trial) × (status ≡ Done)
 
 -- demo has no file
 abbrev pub demo_judged : List (Option ℕ)
@@ -74,4 +74,4 @@ demo_judged = []
 
 -- what demo answers: the lines of the number's trial in this width
 abbrev pub DemoOf : ℕ → ℕ → Relation
-DemoOf number k w status = (trial : Trial) × IsTrial number k trial × Tells trial w status
+DemoOf number k w status = (trial : Trial) × IsTrial number k trial × TellsTrial trial w status

@@ -24,7 +24,7 @@ use Rattle.da_judging.specs.VerifyFor.{verify_for_judged, VerifyForOf}
 use Rattle.da_judging.specs.VerifyCommitment.{VerifyCommitmentOf}
 use Rattle.da_judging.specs.Root.{RootOf, RootIsOf}
 use Rattle.da_serving.specs.Wanted.{missing_in, WantedOf}
-use Rattle.da_serving.specs.Blobs.{shares_in, BlobsOf}
+use Rattle.da_serving.specs.Blobs.{shares_frame, BlobsOf}
 use Rattle.da_serving.specs.Transactions.{TransactionsOf}
 use Rattle.da_serving.specs.Find.{FindOf}
 use Rattle.da_serving.specs.Commit.{CommitOf}
@@ -57,7 +57,7 @@ judged_of (RootIs root) files = single_judged header_in files
 judged_of (Wanted axis) files = single_judged missing_in files
 judged_of (Cells key count axis) files = single_judged header_in files
 judged_of (CellsBy count axis) files = cells_by_judged files
-judged_of Blobs files = single_judged shares_in files
+judged_of Blobs files = single_judged shares_frame files
 judged_of Transactions files = single_judged square_in files
 judged_of (Find commitment) files = single_judged square_in files
 judged_of Commit files = single_judged block_or_list_in files

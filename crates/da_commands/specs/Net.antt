@@ -5,7 +5,7 @@ use Rattle.data_header.specs.Headers.{Roots}
 use Rattle.da_wire.specs.Reading.{Raw}
 use Rattle.da_wire.specs.Frames.{frames_of}
 use Rattle.da_script.specs.Scripts.{moves_of, bad_script}
-use Rattle.da_script.specs.Plays.{items_in, item_sizes, is_refused, first_net, Tells}
+use Rattle.da_script.specs.Plays.{items_in, item_sizes, is_refused, first_net, TellsPlay}
 use Rattle.da_status.specs.declared.status.Asked.TheVariants.{Nodes}
 use Rattle.da_status.specs.declared.status.Status.TheVariants.{Done, BadRequest}
 use Rattle.da_status.specs.Outcome.{Relation, Refuses}
@@ -25,7 +25,7 @@ Limited false Answer = Answer
 -- the lines of a script over frames under a header, where the network isn't too large
 abbrev pub Nets : Roots → List Raw → List ℕ → Relation
 Nets header frames script = Limited (is_refused header.k (item_sizes frames) (moves_of (length (items_in frames)) script) script)
-    (λ w status. Tells (items_in frames) (first_net header (moves_of (length (items_in frames)) script) script)
+    (λ w status. TellsPlay (items_in frames) (first_net header (moves_of (length (items_in frames)) script) script)
     (moves_of (length (items_in frames)) script) w × (status ≡ Done))
 
 -- HEADER is a header and nothing else, MESSAGES a list of frames, and SCRIPT a script over its items

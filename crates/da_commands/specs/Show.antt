@@ -4,7 +4,7 @@ use Rattle.std.specs.List.{flat_map}
 use Rattle.da_wire.specs.declared.frames.Frame.{Frame}
 use Rattle.da_wire.specs.Spelling.{header_kind, square_kind, message_kind, names_kind, fraud_kind, missing_kind, clash_kind, sample_kind, request_kind, block_kind, commit_kind, rooted_kind, transactions_kind, refusal_kind, state_kind}
 use Rattle.da_wire.specs.Values.{values_of, bad_value}
-use Rattle.da_show.specs.Text.{text_of}
+use Rattle.da_show.specs.Text.{shown_text}
 use Rattle.da_show.specs.Json.{json_text}
 use Rattle.da_status.specs.declared.status.Status.TheVariants.{Done}
 use Rattle.da_commands.specs.declared.show.Form.{Form}
@@ -22,16 +22,16 @@ all_kinds =
 
 -- what a form shows of a frame
 abbrev pub shown_as : Form → Frame → List ℕ
-shown_as Text = text_of
+shown_as Text = shown_text
 shown_as Json = json_text
 
 -- what is shown of a frame, ended by a line feed
-abbrev pub line_of : (Frame → List ℕ) → Frame → List ℕ
-line_of shown frame = shown frame ++ 10 ∷ []
+abbrev pub shown_line : (Frame → List ℕ) → Frame → List ℕ
+shown_line shown frame = shown frame ++ 10 ∷ []
 
 -- what is shown of each frame, each ended by a line feed
 abbrev pub shown_bytes : (Frame → List ℕ) → List Frame → List ℕ
-shown_bytes shown frames = flat_map (line_of shown) frames
+shown_bytes shown frames = flat_map (shown_line shown) frames
 
 -- what is shown of each frame of a file
 abbrev pub all_shown : (Frame → List ℕ) → List ℕ → List ℕ
@@ -44,8 +44,8 @@ abbrev pub shown_file : List (List ℕ) → List ℕ
 shown_file files = file_of files 0
 
 -- this is written, and the output is complete
-abbrev pub Shows : (Frame → List ℕ) → List Frame → Relation
-Shows shown frames w status = (w ≡ shown_bytes shown frames) × (status ≡ Done)
+abbrev pub ShowsFrames : (Frame → List ℕ) → List Frame → Relation
+ShowsFrames shown frames w status = (w ≡ shown_bytes shown frames) × (status ≡ Done)
 
 -- FILE is a list of frames of any kind in the grammar
 abbrev pub show_judged : List (List ℕ) → List (Option ℕ)
@@ -53,8 +53,8 @@ show_judged files = bad_value all_kinds (shown_file files) ∷ []
 
 -- what show answers: the text of each frame
 abbrev pub ShowOf : List (List ℕ) → Relation
-ShowOf files = Shows text_of (values_of all_kinds (shown_file files))
+ShowOf files = ShowsFrames shown_text (values_of all_kinds (shown_file files))
 
 -- what json answers: the JSON of each frame
 abbrev pub JsonOf : List (List ℕ) → Relation
-JsonOf files = Shows json_text (values_of all_kinds (shown_file files))
+JsonOf files = ShowsFrames json_text (values_of all_kinds (shown_file files))

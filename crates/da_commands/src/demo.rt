@@ -1,7 +1,7 @@
 //! demo NUMBER WIDTH: what comes of the trial of a number.
 
 ghost use Rattle.std.specs.Prelude.{◌≡◌, ◌≤◌, ◌<◌, [], length, get_or, true};
-ghost use Rattle.da_commands.specs.Demo.{is_trial_width, number_line, root_line, verdict_line, upheld_line, trial_lines, Tells, DemoOf};
+ghost use Rattle.da_commands.specs.Demo.{is_trial_width, number_line, trial_root_line, outcome_line, upheld_line, trial_lines, TellsTrial, DemoOf};
 ghost use Rattle.da_status.specs.Outcome.{EndsAtOnce};
 
 use da_demo::{Outcome, Trial, Upheld, trial};
@@ -24,7 +24,7 @@ fn number_line(name: &[u8], number: u64) -> Line
 
 /// The line of a data root, in hexadecimal digits.
 fn root_line(root: &[u8; 32]) -> Line
-    ensures { result ≡ root_line root.now }
+    ensures { result ≡ trial_root_line root.now }
 {
     let mut digits = [0u8; 64];
     let _written = hex::encode_to_slice(root, &mut digits);
@@ -37,7 +37,7 @@ fn root_line(root: &[u8; 32]) -> Line
 
 /// The line of what a repair came to.
 fn verdict_line(told: Outcome) -> Line
-    ensures { result ≡ verdict_line told }
+    ensures { result ≡ outcome_line told }
 {
     let mut line = Line::new();
     match told {
@@ -90,7 +90,7 @@ fn line_at(trial: &Trial, i: usize) -> Line
 
 /// Writes the lines of a trial, one at a time. It takes no memory.
 fn tell<O: Sink>(trial: &Trial, out: &mut O) -> Status
-    ensures { EndsAtOnce (Tells trial.now) (O.taken out.old) (O.taken out.new) (O.faults out.old)
+    ensures { EndsAtOnce (TellsTrial trial.now) (O.taken out.old) (O.taken out.new) (O.faults out.old)
         (O.faults out.new) (out.new ≡ out.old) result }
 {
     for i in 0..LINES {

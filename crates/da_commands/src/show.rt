@@ -7,7 +7,7 @@ ghost use Rattle.da_wire.specs.declared.frames.Frame.{Frame as FrameOf};
 ghost use Rattle.da_wire.specs.Briefs.{brief_of};
 ghost use Rattle.da_wire.specs.Values.{values_of};
 ghost use Rattle.da_files.specs.Contents.{contents_of};
-ghost use Rattle.da_commands.specs.Show.{all_kinds, shown_as, line_of, all_shown, Shows, show_judged, shown_file, ShowOf, JsonOf};
+ghost use Rattle.da_commands.specs.Show.{all_kinds, shown_as, shown_line, all_shown, ShowsFrames, show_judged, shown_file, ShowOf, JsonOf};
 ghost use Rattle.da_status.specs.declared.status.Status.TheVariants.{WriteFault};
 ghost use Rattle.da_status.specs.Judging.{Judged};
 ghost use Rattle.da_status.specs.Outcome.{Ends};
@@ -44,7 +44,7 @@ fn shown(alloc: Global, form: Form, frame: &Frame) -> Result<String, NoMemory>
 
 /// What is shown of a frame, ended by a line feed.
 fn line(alloc: Global, form: Form, frame: &Frame) -> Result<String, NoMemory>
-    ensures { IfOk result (λ text. string_bytes text ≡ line_of (shown_as form) frame.now) }
+    ensures { IfOk result (λ text. string_bytes text ≡ shown_line (shown_as form) frame.now) }
 {
     let mut text = shown(alloc, form, frame)?;
     match text.push('\n') {
@@ -68,7 +68,7 @@ fn put_shown(alloc: Global, form: Form, text: &mut String, brief: &Brief) -> Res
 fn put_line(alloc: Global, form: Form, text: &mut String, brief: &Brief) -> Result<(), NoMemory>
     ensures { (value : FrameOf) → brief_of value ≡ Some brief.now →
         OnOk result (string_bytes text.new
-        ≡ string_bytes text.old ++ line_of (shown_as form) value) }
+        ≡ string_bytes text.old ++ shown_line (shown_as form) value) }
 {
     put_shown(alloc, form, text, brief)?;
     match text.push_str("\n") {
@@ -152,7 +152,7 @@ fn after(wrote: Result<(), WriteFailed>, status: Status) -> Status
 /// Writes what is shown of each frame, as many lines at a time as the room holds. The bytes are a
 /// list of frames. Where memory runs out, what was shown before is written.
 fn list<O: Sink>(alloc: Global, form: Form, frames: &[u8], out: &mut O) -> Status
-    ensures { Ends (Shows (shown_as form) (values_of all_kinds frames.now)) (O.taken out.old)
+    ensures { Ends (ShowsFrames (shown_as form) (values_of all_kinds frames.now)) (O.taken out.old)
         (O.taken out.new) (O.faults out.old) (O.faults out.new) (out.new ≡ out.old) result }
 {
     let mut room = LineRoom::new();
@@ -175,7 +175,7 @@ fn list<O: Sink>(alloc: Global, form: Form, frames: &[u8], out: &mut O) -> Statu
 /// Shows the frames in FILE, which is judged before the first line.
 fn judge<O: Sink>(alloc: Global, form: Form, files: &[Vec<u8>], out: &mut O) -> Status
     ensures { Ends (Judged (show_judged (contents_of files.now))
-        (Shows (shown_as form) (values_of all_kinds (shown_file (contents_of files.now)))))
+        (ShowsFrames (shown_as form) (values_of all_kinds (shown_file (contents_of files.now)))))
         (O.taken out.old) (O.taken out.new) (O.faults out.old) (O.faults out.new)
         (out.new ≡ out.old) result }
 {

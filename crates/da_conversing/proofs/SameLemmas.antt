@@ -16,7 +16,7 @@ use Rattle.axis_roots.specs.Messages.{IsMessage}
 use Rattle.axis_roots.specs.Grids.{IsHeaderOf}
 use Rattle.axis_roots.specs.Openings.{IsProved}
 use Rattle.axis_roots.specs.Trees.{message_at}
-use Rattle.square_serve.specs.Shares.{shares_of}
+use Rattle.square_serve.specs.Shares.{namespace_shares}
 use Rattle.square_serve.specs.Answers.{shown, IsComplete}
 use Rattle.square_serve.specs.Serving.{HeldParts, IsHeld, Holds, answer_for}
 use Rattle.frame_payloads.specs.Payloads.{max_payload}
@@ -34,14 +34,14 @@ use Rattle.da_files.specs.Forms.{Over}
 use Rattle.da_files.specs.Requests.{namespace_of, namespaces_in}
 use Rattle.da_files.proofs.RequestLemmas.{all_pass}
 use Rattle.da_serving.specs.Serving.{requests_file, Serves}
-use Rattle.da_serving.specs.Sample.{sample_of, samples_in, is_asked_inside, AllowsSample}
+use Rattle.da_serving.specs.Sample.{asked_sample, samples_in, is_asked_inside, AllowsSample}
 use Rattle.da_serving.specs.Namespace.{is_other, AllowsNames}
 use Rattle.da_serving.proofs.AnswerLemmas.{complete_short}
 use Rattle.da_serving.proofs.NamespaceLemmas.{are_named}
 use Rattle.da_serving.proofs.SampleLemmas.{is_sample}
 use Rattle.da_serving.proofs.ServingLemmas.{serves_gives}
 use Rattle.da_talk.specs.declared.asking.Asked.TheVariants as asked
-use Rattle.da_talk.specs.Replies.{asked_by, sample_asked, names_asked, refusal, reply, reply_to, due}
+use Rattle.da_talk.specs.Replies.{asked_by, sample_asked, names_asked, refusal, reply, held_reply, due}
 use Rattle.da_conversing.specs.Laws.{RepliesAreSamples, RepliesAreAnswers}
 use Rattle.da_conversing.proofs.ReplyLemmas.{IsTold, told_due, spelled_so, mapped, of_kind}
 
@@ -68,7 +68,7 @@ SpellsMessages = (m : sent.Message) → IsMessage m → IsSome (spelling (Messag
 -- the reply to a request for the sample of a cell inside
 told_sample : (held : HeldParts) (square : SquareShares) → Holds held square → ProvesCells held → SpellsMessages
     → (raw : Raw) (value : Frame) → value_at raw.kind raw.payload ≡ Some value → is_among (sample_kind ∷ []) raw.kind ≡ true
-    → IsTold (AllowsSample square held.header) sample_of (λ a. is_asked_inside square a ≡ true) (sample_kind ∷ []) (reply_to held) raw value
+    → IsTold (AllowsSample square held.header) asked_sample (λ a. is_asked_inside square a ≡ true) (sample_kind ∷ []) (held_reply held) raw value
 told_sample held square holds proved spelled raw value e among =
     let asks = asks_sample raw value e among in
     let cell : Cell = asks.0.0 in
@@ -77,11 +77,11 @@ told_sample held square holds proved spelled raw value e among =
     let text : List ℕ = frame message_kind (message_payload m) in
     record {
       request = asks.0;
-      asks = ap sample_of asks.1;
+      asks = ap asked_sample asks.1;
       told = λ number inside.
           let within : is_in_square held.k cell ≡ true = ap (λ (k : ℕ). is_in_square k cell) holds.width ∙ inside in
           let opens = proved cell axis within in
-          let said : reply_to held number raw ≡ text =
+          let said : held_reply held number raw ≡ text =
           ap (reply held number) asks.2 ∙ ap (λ (b : Bool). cond b text (refusal NoAnswer number)) within in (
             Message m,
             (m, is_sample held square asks.0 m holds refl refl refl opens, refl),
@@ -94,13 +94,13 @@ pub replies_are_samples : ((held : HeldParts) (square : SquareShares) → Holds 
     → SpellsMessages → RepliesAreSamples
 replies_are_samples own proved spelled files square held read is holds none inside =
     let bytes : List ℕ = requests_file files in
-    let served = serves_gives square (is_asked_inside square) (AllowsSample square) (samples_in bytes) held.header (own held square holds) inside (due (reply_to held) bytes) Done (
-      told_due (AllowsSample square held.header) sample_of (λ a. is_asked_inside square a ≡ true) (sample_kind ∷ []) (reply_to held)
+    let served = serves_gives square (is_asked_inside square) (AllowsSample square) (samples_in bytes) held.header (own held square holds) inside (due (held_reply held) bytes) Done (
+      told_due (AllowsSample square held.header) asked_sample (λ a. is_asked_inside square a ≡ true) (sample_kind ∷ []) (held_reply held)
           (told_sample held square holds (λ cell axis within. proved held cell axis is within) spelled)
           bytes none (all_pass (is_asked_inside square) 0 (samples_in bytes) inside),
       refl,
     ) in
-    subst (λ (r : Result SquareShares ℕ). Over r (λ s. Serves s (is_asked_inside s) (AllowsSample s) (samples_in bytes)) (due (reply_to held) bytes) Done) (sym read) served
+    subst (λ (r : Result SquareShares ℕ). Over r (λ s. Serves s (is_asked_inside s) (AllowsSample s) (samples_in bytes)) (due (held_reply held) bytes) Done) (sym read) served
 
 -- ---- namespaces
 
@@ -119,7 +119,7 @@ record HasAnswers (held : HeldParts) (square : SquareShares) : Type 0 where
   own : IsHeaderOf held.header square
   complete : (name : names.Namespace) → IsNamespace name → is_parity name ≡ false → IsComplete held.header name (answer_for held name)
   entries : (name : names.Namespace) → IsNamespace name → AreEntries (answer_for held name)
-  shares : (name : names.Namespace) → IsNamespace name → is_parity name ≡ false → shown (answer_for held name) ≡ shares_of square name
+  shares : (name : names.Namespace) → IsNamespace name → is_parity name ≡ false → shown (answer_for held name) ≡ namespace_shares square name
 
 abbrev SpellsNames : Type 0
 SpellsNames = (name : names.Namespace) (answer : List NsEntry) → IsNamespace name → AreEntries answer → is_long_answer answer ≡ false → IsSome (spelling (Names name answer))
@@ -130,7 +130,7 @@ IsGood name = IsNamespace name × (is_other name ≡ true)
 
 told_names : (held : HeldParts) (square : SquareShares) → HasAnswers held square → SpellsNames
     → (raw : Raw) (value : Frame) → value_at raw.kind raw.payload ≡ Some value → is_among (request_kind ∷ []) raw.kind ≡ true
-    → IsTold (AllowsNames square held.header) namespace_of IsGood (request_kind ∷ []) (reply_to held) raw value
+    → IsTold (AllowsNames square held.header) namespace_of IsGood (request_kind ∷ []) (held_reply held) raw value
 told_names held square has spelled raw value e among =
     let asks = asks_names raw value e among in
     let name : names.Namespace = asks.0 in
@@ -143,7 +143,7 @@ told_names held square has spelled raw value e among =
           let other : is_parity name ≡ false = not-true (is_parity name) good.1 in
           let complete = has.complete name good.0 other in
           let short : is_long_answer answer ≡ false = complete_short held.header square name answer has.own complete in
-          let said : reply_to held number raw ≡ text =
+          let said : held_reply held number raw ≡ text =
           ap (reply held number) asks.2 ∙ ap (λ (b : Bool). cond b (refusal NoAnswer number) text) other in (
             Names name answer,
             (answer, record { complete = complete; shares = has.shares name good.0 other }, refl),
@@ -162,7 +162,7 @@ pub replies_are_answers : ((held : HeldParts) (square : SquareShares) → Holds 
     → ((held : HeldParts) (name : names.Namespace) → IsHeld held → IsNamespace name → is_parity name ≡ false → IsComplete held.header name (answer_for held name))
     → ((held : HeldParts) (name : names.Namespace) → IsHeld held → IsNamespace name → AreEntries (answer_for held name))
     → ((held : HeldParts) (square : SquareShares) (name : names.Namespace) → IsHeld held → Holds held square → IsNamespace name → is_parity name ≡ false
-    → shown (answer_for held name) ≡ shares_of square name)
+    → shown (answer_for held name) ≡ namespace_shares square name)
     → SpellsNames → ValuesAreTheFile → BadValueIsFirst → RepliesAreAnswers
 replies_are_answers own complete entries shares spelled whole first files square held read is holds fits none others =
     let bytes : List ℕ = requests_file files in
@@ -172,9 +172,9 @@ replies_are_answers own complete entries shares spelled whole first files square
       entries = λ name. entries held name is;
       shares = λ name. shares held square name is holds;
     } in
-    let served = serves_gives square is_other (AllowsNames square) (namespaces_in bytes) held.header has.own others (due (reply_to held) bytes) Done (
-      told_due (AllowsNames square held.header) namespace_of IsGood (request_kind ∷ []) (reply_to held) (told_names held square has spelled)
+    let served = serves_gives square is_other (AllowsNames square) (namespaces_in bytes) held.header has.own others (due (held_reply held) bytes) Done (
+      told_due (AllowsNames square held.header) namespace_of IsGood (request_kind ∷ []) (held_reply held) (told_names held square has spelled)
           bytes none (both_good (namespaces_in bytes) (are_named whole first bytes fits) (all_pass is_other 0 (namespaces_in bytes) others)),
       refl,
     ) in
-    subst (λ (r : Result SquareShares ℕ). Over r (λ s. Serves s is_other (AllowsNames s) (namespaces_in bytes)) (due (reply_to held) bytes) Done) (sym read) served
+    subst (λ (r : Result SquareShares ℕ). Over r (λ s. Serves s is_other (AllowsNames s) (namespaces_in bytes)) (due (held_reply held) bytes) Done) (sym read) served

@@ -12,10 +12,10 @@ use Rattle.da_files.specs.Frames.{square_in}
 use Rattle.da_talk.specs.declared.ended.Ended.{Ended}
 use Rattle.da_talk.specs.declared.ended.Ended.TheVariants.{Done, Bad, ReadFailed, WriteFailed, TooLong}
 use Rattle.da_talk.specs.Events.{heard_in}
-use Rattle.da_talk.specs.Replies.{due, reply_to}
+use Rattle.da_talk.specs.Replies.{due, held_reply}
 use Rattle.da_conversing.specs.Words.{square_name, talk_name}
 use Rattle.da_conversing.specs.Squares.{HasSquare, IsNoSquare, HoldsSquare}
-use Rattle.da_conversing.specs.Courses.{status_of, Talked, IsFileOf, TalksOver, GoesOn, Converses, HasReplied, RepliesWhole}
+use Rattle.da_conversing.specs.Courses.{talk_status, Talked, IsFileOf, TalksOver, GoesOn, Converses, HasReplied, RepliesWhole}
 
 -- the bytes of a file that was read to its end
 all_heard : (files : Files) (name heard : List ℕ) (left : Option (List ℕ)) → IsFileOf (Some files) name heard left → IsAtEnd left → files name ≡ Some heard
@@ -33,8 +33,8 @@ module _ {I O : Type 0} (i : inputs.Ghosts I) (o : sink.Ghosts O) (now : I) (old
     holds : Holds held square
 
   -- by how the talk ended
-  replied : (square : SquareShares) (held : HeldParts) → IsSquareOf square held → (start : I) (end : Ended) (talk : Talked i o start now old new (due (reply_to held)) end)
-      → IsFileOf (Some files) (talk_name words) (heard_in talk.events) (i.rest now) → status_of end ≡ status.Done
+  replied : (square : SquareShares) (held : HeldParts) → IsSquareOf square held → (start : I) (end : Ended) (talk : Talked i o start now old new (due (held_reply held)) end)
+      → IsFileOf (Some files) (talk_name words) (heard_in talk.events) (i.rest now) → talk_status end ≡ status.Done
       → HasReplied files words (o.taken old) (o.taken new)
   replied square held of start Done talk file e = record {
     file = of.file;

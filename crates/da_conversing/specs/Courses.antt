@@ -17,17 +17,17 @@ use Rattle.da_talk.specs.declared.ended.Ended.{Ended}
 use Rattle.da_talk.specs.declared.ended.Ended.TheVariants as ended
 use Rattle.da_talk.specs.Events.{Event, heard_in, said_in}
 use Rattle.da_talk.specs.Talks.{IsPrompt, AtEachWait, HasNoLong, EndsTalk, last_wait}
-use Rattle.da_talk.specs.Replies.{due, reply_to}
+use Rattle.da_talk.specs.Replies.{due, held_reply}
 use Rattle.da_conversing.specs.Words.{square_name, talk_name}
 use Rattle.da_conversing.specs.Squares.{HasSquare, IsNoSquare, HoldsSquare}
 
 -- the status of a talk that ended so
-abbrev pub status_of : Ended → Status
-status_of ended.Done = status.Done
-status_of (ended.Bad at) = status.BadInput 1 at
-status_of ended.ReadFailed = status.ReadFault 1
-status_of ended.WriteFailed = status.WriteFault
-status_of ended.TooLong = status.TooLong 1
+abbrev pub talk_status : Ended → Status
+talk_status ended.Done = status.Done
+talk_status (ended.Bad at) = status.BadInput 1 at
+talk_status ended.ReadFailed = status.ReadFault 1
+talk_status ended.WriteFailed = status.WriteFault
+talk_status ended.TooLong = status.TooLong 1
 
 -- a talk over the picked file and an output: what was heard is gone from what is left of the file and counted, what was said was
 -- taken by the output, each reply was said before more bytes were waited for, and no other file was picked (da_talk)
@@ -69,8 +69,8 @@ pub record IsPicked {I : Type 0} (i : inputs.Ghosts I) (before start : I) (name 
 abbrev pub TalksOver : {I O : Type 0} → inputs.Ghosts I → sink.Ghosts O → I → I → O → O → HeldParts → List ℕ → Status → Type 0
 TalksOver {I} {O} i o before now old new held name why =
     ((why ≡ status.PickFault 1) × (i.ended now ≡ call.PickFailed) × HasPicked i before now name × (new ≡ old))
-    ⊎ ((start : I) × (end : Ended) × IsPicked i before start name × (talk : Talked i o start now old new (due (reply_to held)) end)
-    × IsFileOf (i.files before) name (heard_in talk.events) (i.rest now) × (why ≡ status_of end))
+    ⊎ ((start : I) × (end : Ended) × IsPicked i before start name × (talk : Talked i o start now old new (due (held_reply held)) end)
+    × IsFileOf (i.files before) name (heard_in talk.events) (i.rest now) × (why ≡ talk_status end))
 
 -- what comes of a talk that ended with its input, where files are told: SQUARE is a square, which is held, TALK is a list of frames,
 -- and the replies to all of them were written
@@ -85,7 +85,7 @@ pub record HasReplied (files : Files) (words : List (List ℕ)) (old new : Optio
   pub talk : List ℕ
   pub is_talk : files (talk_name words) ≡ Some talk
   pub frames : bad_frame talk ≡ None
-  pub replies : Appends old new (due (reply_to held) talk)
+  pub replies : Appends old new (due (held_reply held) talk)
 
 -- so it is where the status is 0
 abbrev pub RepliesWhole : Status → Option Files → List (List ℕ) → Option (List ℕ) → Option (List ℕ) → Type 0

@@ -7,7 +7,7 @@ use Rattle.da_io.specs.declared.inputs.Ended.{Ended}
 use Rattle.da_io.specs.declared.inputs.Ended.TheVariants as call
 use Rattle.da_status.specs.declared.status.Status.{Status}
 use Rattle.da_status.specs.declared.status.Status.TheVariants as status
-use Rattle.da_status.specs.Statuses.{kind_of, input_count}
+use Rattle.da_status.specs.Statuses.{status_kind, input_count}
 use Rattle.da_cli.specs.Limits.{file_limit}
 
 -- the file with a name has bytes of which this holds, where files are told
@@ -46,4 +46,4 @@ ReadsValue value_in file told name last given (Err why) = IsNoValue value_in fil
 -- the inputs' count of failures after that: a pick or a read that failed is counted
 abbrev pub reading_faults : {A : Type 0} → Result A Status → ℕ → ℕ
 reading_faults (Ok value) before = before
-reading_faults (Err why) before = input_count (kind_of why) before
+reading_faults (Err why) before = input_count (status_kind why) before

@@ -9,7 +9,7 @@ use Rattle.da_io.specs.Faults.{count_on}
 use Rattle.da_wire.specs.Frames.{frames_of}
 use Rattle.da_status.specs.declared.status.Status.{Status}
 use Rattle.da_status.specs.declared.status.Status.TheVariants as status
-use Rattle.da_status.specs.Statuses.{kind_of, output}
+use Rattle.da_status.specs.Statuses.{status_kind, output}
 use Rattle.da_talk.specs.declared.talker.Talker as talker
 use Rattle.da_talk.specs.declared.talk_end.TalkEnd.{TalkEnd}
 use Rattle.da_talk.specs.declared.talk_end.TalkEnd.TheVariants.{Over, Decided, Bad, Unfit, ReadFailed, WriteFailed, TooLong, NoMemory}
@@ -31,8 +31,8 @@ IsStatus file NoMemory kept why = why ≡ status.NoMemory
 
 -- last words were said only with a status of a complete output
 abbrev pub IsKept : TalkEnd → Option Status → Type 0
-IsKept Over kept = (why : Status) × (kept ≡ Some why) × (kind_of why ≡ output)
-IsKept Decided kept = (why : Status) × (kept ≡ Some why) × (kind_of why ≡ output)
+IsKept Over kept = (why : Status) × (kept ≡ Some why) × (status_kind why ≡ output)
+IsKept Decided kept = (why : Status) × (kept ≡ Some why) × (status_kind why ≡ output)
 IsKept other kept = ⊤
 
 -- a talk over the picked file and an output: what was heard is gone from what is left of the file and counted, what was said was

@@ -72,13 +72,13 @@ is_once header key talk = if is_key_input key then not (is_standard_input header
     else not (is_standard_input header && is_standard_input talk)
 
 -- the key that KEY is, or that it names a file of one
-abbrev pub key_word : List ℕ → Option KeyWord
-key_word word = if is_key_name word then Some Named else option_map Key (key_in word)
+abbrev pub key_given : List ℕ → Option KeyWord
+key_given word = if is_key_name word then Some Named else option_map Key (key_in word)
 
 -- the key and the count that KEY and COUNT are
 abbrev pub watch_of : List ℕ → List ℕ → Option Watch
 watch_of key count =
-    option_map_or (λ k. option_map (λ n. record { key = k; count = n }) (number_in (2 ^ 32 - 1) count)) (key_word key) None
+    option_map_or (λ k. option_map (λ n. record { key = k; count = n }) (number_in (2 ^ 32 - 1) count)) (key_given key) None
 
 -- whether words are watch and four more, and of their files one at most is the standard input
 abbrev pub has_watch : List (List ℕ) → Bool

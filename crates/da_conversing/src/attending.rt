@@ -6,13 +6,13 @@ ghost use Rattle.frame_payloads.specs.Payloads.{max_payload};
 ghost use Rattle.da_io.specs.declared.inputs.Ended.TheVariants.{Fine};
 ghost use Rattle.da_io.specs.Faults.{count_on};
 ghost use Rattle.da_status.specs.declared.status.Status.TheVariants.{Usage};
-ghost use Rattle.da_status.specs.Statuses.{kind_of, input_count, output_count};
+ghost use Rattle.da_status.specs.Statuses.{status_kind, input_count, output_count};
 ghost use Rattle.da_files.specs.Requests.{namespaces_in};
 ghost use Rattle.da_following.specs.Follow.{each_once};
 ghost use Rattle.da_cli.specs.Words.{words_of};
 ghost use Rattle.da_talk.specs.Told.{hear_count, say_count};
-ghost use Rattle.da_attending.specs.Attended.{most_missing, attending};
-ghost use Rattle.da_attending.specs.Attenders.{IsFresh};
+ghost use Rattle.da_attending.specs.Attended.{most_missing_lines, attending};
+ghost use Rattle.da_attending.specs.Attenders.{IsFreshAttender};
 ghost use Rattle.da_conversing.specs.Words.{is_attend};
 ghost use Rattle.da_conversing.specs.Tellings.{ToldOver, TellsOver, IsKept};
 ghost use Rattle.da_conversing.specs.Attends.{AttendsOver, AttendsTo, AnswersAttend};
@@ -43,9 +43,9 @@ fn talk<I: Inputs, O: Sink>(
     inputs: &mut I,
     out: &mut O,
 ) -> TalkEnd
-    requires fresh { IsFresh attender.old }
+    requires fresh { IsFreshAttender attender.old }
     requires room { 5 + max_payload ≤ vec_capacity room.old }
-    requires text { most_missing attender.old.names ≤ vec_capacity text.old }
+    requires text { most_missing_lines attender.old.names ≤ vec_capacity text.old }
     requires fine { I.ended inputs.old ≡ Fine }
     ensures talk { ToldOver I.Inputs O.Sink (attending attender.old.names) inputs.old inputs.new
         out.old out.new attender.new.status result }
@@ -68,14 +68,14 @@ fn talk_over<I: Inputs, O: Sink>(
     inputs: &mut I,
     out: &mut O,
 ) -> Status
-    requires fresh { IsFresh attender.old }
+    requires fresh { IsFreshAttender attender.old }
     requires room { 5 + max_payload ≤ vec_capacity room.old }
-    requires text { most_missing attender.old.names ≤ vec_capacity text.old }
+    requires text { most_missing_lines attender.old.names ≤ vec_capacity text.old }
     ensures talk { TellsOver I.Inputs O.Sink (attending attender.old.names) Some 1
         (string_bytes name) inputs.old inputs.new out.old out.new result }
     ensures other { result ≢ Usage }
-    ensures input_faults { I.faults inputs.new ≡ input_count (kind_of result) (I.faults inputs.old) }
-    ensures output_faults { O.faults out.new ≡ output_count (kind_of result) (O.faults out.old) }
+    ensures input_faults { I.faults inputs.new ≡ input_count (status_kind result) (I.faults inputs.old) }
+    ensures output_faults { O.faults out.new ≡ output_count (status_kind result) (O.faults out.old) }
     ensures files { I.files inputs.new ≡ I.files inputs.old }
     ensures told { IsSome (O.taken out.old) ↔ IsSome (O.taken out.new) }
 {
@@ -98,8 +98,8 @@ fn answer_names<I: Inputs, O: Sink>(
     ensures course { AttendsOver I.Inputs O.Sink inputs.old inputs.new out.old out.new names.now
         (string_bytes name) result }
     ensures other { result ≢ Usage }
-    ensures input_faults { I.faults inputs.new ≡ input_count (kind_of result) (I.faults inputs.old) }
-    ensures output_faults { O.faults out.new ≡ output_count (kind_of result) (O.faults out.old) }
+    ensures input_faults { I.faults inputs.new ≡ input_count (status_kind result) (I.faults inputs.old) }
+    ensures output_faults { O.faults out.new ≡ output_count (status_kind result) (O.faults out.old) }
     ensures files { I.files inputs.new ≡ I.files inputs.old }
     ensures told { IsSome (O.taken out.old) ↔ IsSome (O.taken out.new) }
 {
@@ -129,8 +129,8 @@ fn answer_each<I: Inputs, O: Sink>(
     ensures course { AttendsOver I.Inputs O.Sink inputs.old inputs.new out.old out.new
         (each_once (namespaces_in wanted.now)) (string_bytes name) result }
     ensures other { result ≢ Usage }
-    ensures input_faults { I.faults inputs.new ≡ input_count (kind_of result) (I.faults inputs.old) }
-    ensures output_faults { O.faults out.new ≡ output_count (kind_of result) (O.faults out.old) }
+    ensures input_faults { I.faults inputs.new ≡ input_count (status_kind result) (I.faults inputs.old) }
+    ensures output_faults { O.faults out.new ≡ output_count (status_kind result) (O.faults out.old) }
     ensures files { I.files inputs.new ≡ I.files inputs.old }
     ensures told { IsSome (O.taken out.old) ↔ IsSome (O.taken out.new) }
 {
@@ -151,8 +151,8 @@ fn answer_wanted<I: Inputs, O: Sink>(
     ensures course { AttendsTo I.Inputs O.Sink inputs.old inputs.new out.old out.new
         (namespaces_in wanted.now) (string_bytes name) result }
     ensures other { result ≢ Usage }
-    ensures input_faults { I.faults inputs.new ≡ input_count (kind_of result) (I.faults inputs.old) }
-    ensures output_faults { O.faults out.new ≡ output_count (kind_of result) (O.faults out.old) }
+    ensures input_faults { I.faults inputs.new ≡ input_count (status_kind result) (I.faults inputs.old) }
+    ensures output_faults { O.faults out.new ≡ output_count (status_kind result) (O.faults out.old) }
     ensures files { I.files inputs.new ≡ I.files inputs.old }
     ensures told { IsSome (O.taken out.old) ↔ IsSome (O.taken out.new) }
 {
@@ -173,8 +173,8 @@ pub(crate) fn answer_attend<I: Inputs, O: Sink>(
     ensures course { AnswersAttend I.Inputs O.Sink (words_of words.now) inputs.old inputs.new out.old
         out.new result }
     ensures other { result ≢ Usage }
-    ensures input_faults { I.faults inputs.new ≡ input_count (kind_of result) (I.faults inputs.old) }
-    ensures output_faults { O.faults out.new ≡ output_count (kind_of result) (O.faults out.old) }
+    ensures input_faults { I.faults inputs.new ≡ input_count (status_kind result) (I.faults inputs.old) }
+    ensures output_faults { O.faults out.new ≡ output_count (status_kind result) (O.faults out.old) }
     ensures files { I.files inputs.new ≡ I.files inputs.old }
     ensures told { IsSome (O.taken out.old) ↔ IsSome (O.taken out.new) }
 {

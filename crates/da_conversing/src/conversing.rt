@@ -2,7 +2,7 @@
 
 ghost use Rattle.std.specs.Prelude.{◌≡◌, ◌↔◌, true, false, IsSome};
 ghost use Rattle.da_status.specs.declared.status.Status.TheVariants.{Usage};
-ghost use Rattle.da_status.specs.Statuses.{kind_of, input_count, output_count};
+ghost use Rattle.da_status.specs.Statuses.{status_kind, input_count, output_count};
 ghost use Rattle.da_status.specs.Notes.{note_of, Notes};
 ghost use Rattle.da_cli.specs.Words.{words_of};
 ghost use Rattle.da_conversing.specs.Words.{is_hold, is_gather, is_attend, is_watch, is_stay};
@@ -40,8 +40,8 @@ fn answer<I: Inputs, O: Sink>(
         AnswersWatch I.Inputs O.Sink (words_of words.now) inputs.old inputs.new out.old out.new result }
     ensures attend { is_attend (words_of words.now) ≡ true →
         AnswersAttend I.Inputs O.Sink (words_of words.now) inputs.old inputs.new out.old out.new result }
-    ensures input_faults { I.faults inputs.new ≡ input_count (kind_of result) (I.faults inputs.old) }
-    ensures output_faults { O.faults out.new ≡ output_count (kind_of result) (O.faults out.old) }
+    ensures input_faults { I.faults inputs.new ≡ input_count (status_kind result) (I.faults inputs.old) }
+    ensures output_faults { O.faults out.new ≡ output_count (status_kind result) (O.faults out.old) }
     ensures files { I.files inputs.new ≡ I.files inputs.old }
     ensures told { IsSome (O.taken out.old) ↔ IsSome (O.taken out.new) }
 {
@@ -107,8 +107,8 @@ pub fn converse<I: Inputs, O: Sink, N: Sink>(
         AnswersAttend I.Inputs O.Sink (words_of words.now) inputs.old inputs.new out.old out.new result }
 
     // Failures are counted, and none is hidden behind another status.
-    ensures input_faults { I.faults inputs.new ≡ input_count (kind_of result) (I.faults inputs.old) }
-    ensures output_faults { O.faults out.new ≡ output_count (kind_of result) (O.faults out.old) }
+    ensures input_faults { I.faults inputs.new ≡ input_count (status_kind result) (I.faults inputs.old) }
+    ensures output_faults { O.faults out.new ≡ output_count (status_kind result) (O.faults out.old) }
 
     // What stays.
     ensures files { I.files inputs.new ≡ I.files inputs.old }

@@ -6,11 +6,11 @@ ghost use Rattle.frame_payloads.specs.kinds.Message.{most_message};
 ghost use Rattle.da_io.specs.declared.inputs.Ended.TheVariants.{Fine};
 ghost use Rattle.da_io.specs.Faults.{count_on};
 ghost use Rattle.da_status.specs.declared.status.Status.TheVariants.{Usage};
-ghost use Rattle.da_status.specs.Statuses.{kind_of, input_count, output_count};
+ghost use Rattle.da_status.specs.Statuses.{status_kind, input_count, output_count};
 ghost use Rattle.da_cli.specs.Words.{words_of};
 ghost use Rattle.da_talk.specs.Told.{hear_count, say_count};
 ghost use Rattle.da_gathering.specs.Gatherings.{most_gathered};
-ghost use Rattle.da_gathering.specs.Gathered.{IsFresh, gathering};
+ghost use Rattle.da_gathering.specs.Gathered.{IsFreshGathering, gathering};
 ghost use Rattle.da_conversing.specs.Words.{is_gather};
 ghost use Rattle.da_conversing.specs.Tellings.{ToldOver, TellsOver, IsKept};
 ghost use Rattle.da_conversing.specs.Gathers.{GathersUnder, AnswersGather};
@@ -40,7 +40,7 @@ fn talk<I: Inputs, O: Sink>(
     inputs: &mut I,
     out: &mut O,
 ) -> TalkEnd
-    requires fresh { IsFresh gatherer.old }
+    requires fresh { IsFreshGathering gatherer.old }
     requires room { 5 + most_message ≤ vec_capacity room.old }
     requires text { most_gathered gatherer.old.header.k ≤ vec_capacity text.old }
     requires fine { I.ended inputs.old ≡ Fine }
@@ -65,14 +65,14 @@ fn talk_over<I: Inputs, O: Sink>(
     inputs: &mut I,
     out: &mut O,
 ) -> Status
-    requires fresh { IsFresh gatherer.old }
+    requires fresh { IsFreshGathering gatherer.old }
     requires room { 5 + most_message ≤ vec_capacity room.old }
     requires text { most_gathered gatherer.old.header.k ≤ vec_capacity text.old }
     ensures talk { TellsOver I.Inputs O.Sink (gathering gatherer.old.header) (λ kept. kept) 1
         (string_bytes name) inputs.old inputs.new out.old out.new result }
     ensures other { result ≢ Usage }
-    ensures input_faults { I.faults inputs.new ≡ input_count (kind_of result) (I.faults inputs.old) }
-    ensures output_faults { O.faults out.new ≡ output_count (kind_of result) (O.faults out.old) }
+    ensures input_faults { I.faults inputs.new ≡ input_count (status_kind result) (I.faults inputs.old) }
+    ensures output_faults { O.faults out.new ≡ output_count (status_kind result) (O.faults out.old) }
     ensures files { I.files inputs.new ≡ I.files inputs.old }
     ensures told { IsSome (O.taken out.old) ↔ IsSome (O.taken out.new) }
 {
@@ -94,8 +94,8 @@ fn answer_header<I: Inputs, O: Sink>(
     ensures course { GathersUnder I.Inputs O.Sink inputs.old inputs.new out.old out.new header.now
         (string_bytes name) result }
     ensures other { result ≢ Usage }
-    ensures input_faults { I.faults inputs.new ≡ input_count (kind_of result) (I.faults inputs.old) }
-    ensures output_faults { O.faults out.new ≡ output_count (kind_of result) (O.faults out.old) }
+    ensures input_faults { I.faults inputs.new ≡ input_count (status_kind result) (I.faults inputs.old) }
+    ensures output_faults { O.faults out.new ≡ output_count (status_kind result) (O.faults out.old) }
     ensures files { I.files inputs.new ≡ I.files inputs.old }
     ensures told { IsSome (O.taken out.old) ↔ IsSome (O.taken out.new) }
 {
@@ -122,8 +122,8 @@ pub(crate) fn answer_gather<I: Inputs, O: Sink>(
     ensures course { AnswersGather I.Inputs O.Sink (words_of words.now) inputs.old inputs.new out.old
         out.new result }
     ensures other { result ≢ Usage }
-    ensures input_faults { I.faults inputs.new ≡ input_count (kind_of result) (I.faults inputs.old) }
-    ensures output_faults { O.faults out.new ≡ output_count (kind_of result) (O.faults out.old) }
+    ensures input_faults { I.faults inputs.new ≡ input_count (status_kind result) (I.faults inputs.old) }
+    ensures output_faults { O.faults out.new ≡ output_count (status_kind result) (O.faults out.old) }
     ensures files { I.files inputs.new ≡ I.files inputs.old }
     ensures told { IsSome (O.taken out.old) ↔ IsSome (O.taken out.new) }
 {

@@ -2,7 +2,7 @@
 
 ghost use Rattle.std.specs.Prelude.{◌≡◌, ◌↔◌, true, IsSome};
 ghost use Rattle.std.specs.String.{string_bytes};
-ghost use Rattle.da_status.specs.Statuses.{kind_of, input_count, output_count};
+ghost use Rattle.da_status.specs.Statuses.{status_kind, input_count, output_count};
 ghost use Rattle.da_cli.specs.Words.{words_of};
 ghost use Rattle.da_conversing.specs.Words.{is_hold};
 ghost use Rattle.da_conversing.specs.Courses.{GoesOn, Converses};
@@ -26,8 +26,8 @@ fn answer_square<I: Inputs, O: Sink>(
 ) -> Status
     ensures course { GoesOn I.Inputs O.Sink inputs.old inputs.new out.old out.new square
         (string_bytes name) result }
-    ensures input_faults { I.faults inputs.new ≡ input_count (kind_of result) (I.faults inputs.old) }
-    ensures output_faults { O.faults out.new ≡ output_count (kind_of result) (O.faults out.old) }
+    ensures input_faults { I.faults inputs.new ≡ input_count (status_kind result) (I.faults inputs.old) }
+    ensures output_faults { O.faults out.new ≡ output_count (status_kind result) (O.faults out.old) }
     ensures files { I.files inputs.new ≡ I.files inputs.old }
     ensures told { IsSome (O.taken out.old) ↔ IsSome (O.taken out.new) }
 {
@@ -53,8 +53,8 @@ pub(crate) fn answer_hold<I: Inputs, O: Sink>(
     requires { is_hold (words_of words.now) ≡ true }
     ensures course { Converses I.Inputs O.Sink (words_of words.now) inputs.old inputs.new out.old
         out.new result }
-    ensures input_faults { I.faults inputs.new ≡ input_count (kind_of result) (I.faults inputs.old) }
-    ensures output_faults { O.faults out.new ≡ output_count (kind_of result) (O.faults out.old) }
+    ensures input_faults { I.faults inputs.new ≡ input_count (status_kind result) (I.faults inputs.old) }
+    ensures output_faults { O.faults out.new ≡ output_count (status_kind result) (O.faults out.old) }
     ensures files { I.files inputs.new ≡ I.files inputs.old }
     ensures told { IsSome (O.taken out.old) ↔ IsSome (O.taken out.new) }
 {

@@ -2,11 +2,11 @@
 
 ghost use Rattle.std.specs.Prelude.{◌≡◌, ◌≤◌, ◌↔◌, IsSome, vec_capacity};
 ghost use Rattle.std.specs.String.{string_bytes};
-ghost use Rattle.da_status.specs.Statuses.{kind_of, input_count, output_count};
-ghost use Rattle.da_conversing.specs.Courses.{Talked, TalksOver, status_of};
+ghost use Rattle.da_status.specs.Statuses.{status_kind, input_count, output_count};
+ghost use Rattle.da_conversing.specs.Courses.{Talked, TalksOver, talk_status};
 ghost use Rattle.da_io.specs.Faults.{count_on};
 ghost use Rattle.da_talk.specs.Talks.{read_count, write_count};
-ghost use Rattle.da_talk.specs.Replies.{due, most_reply, reply_to};
+ghost use Rattle.da_talk.specs.Replies.{due, most_reply, held_reply};
 
 use da_io::{Inputs, Sink};
 use da_status::Status;
@@ -18,7 +18,7 @@ const TALK: u32 = 1;
 
 /// The status of a talk that ended so.
 fn status_of(ended: Ended) -> Status
-    ensures { result ≡ status_of ended }
+    ensures { result ≡ talk_status ended }
 {
     match ended {
         Ended::Done => Status::Done,
@@ -38,7 +38,7 @@ fn talk<I: Inputs, O: Sink>(
 ) -> Ended
     requires room { most_reply held.old.k ≤ vec_capacity text.old }
     ensures talk { Talked I.Inputs O.Sink inputs.old inputs.new out.old out.new
-        (due (reply_to held.old)) result }
+        (due (held_reply held.old)) result }
     ensures input_faults { I.faults inputs.new ≡ count_on (I.faults inputs.old) (read_count result) }
     ensures output_faults { O.faults out.new ≡ count_on (O.faults out.old) (write_count result) }
     ensures files { I.files inputs.new ≡ I.files inputs.old }
@@ -59,8 +59,8 @@ pub(crate) fn talk_over<I: Inputs, O: Sink>(
     requires room { most_reply held.old.k ≤ vec_capacity text.old }
     ensures talk { TalksOver I.Inputs O.Sink inputs.old inputs.new out.old out.new held.old
         (string_bytes name) result }
-    ensures input_faults { I.faults inputs.new ≡ input_count (kind_of result) (I.faults inputs.old) }
-    ensures output_faults { O.faults out.new ≡ output_count (kind_of result) (O.faults out.old) }
+    ensures input_faults { I.faults inputs.new ≡ input_count (status_kind result) (I.faults inputs.old) }
+    ensures output_faults { O.faults out.new ≡ output_count (status_kind result) (O.faults out.old) }
     ensures files { I.files inputs.new ≡ I.files inputs.old }
     ensures told { IsSome (O.taken out.old) ↔ IsSome (O.taken out.new) }
 {

@@ -3,7 +3,7 @@
 ghost use Rattle.std.specs.Prelude.{◌≡◌, ◌≢◌, ◌≤◌, ℕ};
 ghost use Rattle.da_io.specs.Faults.{max_count, count_on};
 ghost use Rattle.da_status.specs.declared.status.Status.TheVariants.{Usage};
-ghost use Rattle.da_status.specs.Statuses.{kind_of, input_count, output_count};
+ghost use Rattle.da_status.specs.Statuses.{status_kind, input_count, output_count};
 ghost use Rattle.da_talk.specs.Told.{hear_count, say_count};
 ghost use Rattle.da_conversing.specs.Tellings.{IsStatus, IsKept};
 
@@ -16,9 +16,9 @@ pub(crate) fn status_of(file: u32, end: TalkEnd, kept: Option<Status>) -> Status
     ensures other { result ≢ Usage }
     ensures status { IsStatus file end kept result }
     ensures read_faults { (before now : ℕ) → before ≤ max_count →
-        now ≡ count_on before (hear_count end) → now ≡ input_count (kind_of result) before }
+        now ≡ count_on before (hear_count end) → now ≡ input_count (status_kind result) before }
     ensures write_faults { (before now : ℕ) → before ≤ max_count →
-        now ≡ count_on before (say_count end) → now ≡ output_count (kind_of result) before }
+        now ≡ count_on before (say_count end) → now ≡ output_count (status_kind result) before }
 {
     match end {
         TalkEnd::Over | TalkEnd::Decided => kept.unwrap(),

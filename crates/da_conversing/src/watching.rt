@@ -7,12 +7,12 @@ ghost use Rattle.namespace_id.specs.Cells.{is_in_square};
 ghost use Rattle.da_io.specs.declared.inputs.Ended.TheVariants.{Fine};
 ghost use Rattle.da_io.specs.Faults.{count_on};
 ghost use Rattle.da_status.specs.declared.status.Status.TheVariants.{Usage, NoMemory as OutOfMemory};
-ghost use Rattle.da_status.specs.Statuses.{kind_of, input_count, output_count};
+ghost use Rattle.da_status.specs.Statuses.{status_kind, input_count, output_count};
 ghost use Rattle.da_cli.specs.Words.{words_of};
 ghost use Rattle.da_talk.specs.Told.{hear_count, say_count};
 ghost use Rattle.da_watching.specs.Sizes.{most_claim, most_said};
 ghost use Rattle.light_node.specs.Plans.{PicksInside};
-ghost use Rattle.da_watching.specs.Watchers.{PicksOf, IsFresh, watching};
+ghost use Rattle.da_watching.specs.Watchers.{PicksOf, IsFreshWatcher, watching};
 ghost use Rattle.da_conversing.specs.Words.{watch_call, key_file_name, watch_talk_name};
 ghost use Rattle.da_conversing.specs.Tellings.{ToldOver, TellsOver, IsKept};
 ghost use Rattle.da_conversing.specs.Watches.{WatchesOver, WatchesUnder, AnswersWatch};
@@ -69,7 +69,7 @@ fn talk<I: Inputs, O: Sink, F: Picker>(
     inputs: &mut I,
     out: &mut O,
 ) -> TalkEnd
-    requires fresh { IsFresh F.picks watcher.old }
+    requires fresh { IsFreshWatcher F.picks watcher.old }
     requires room { 5 + most_claim ≤ vec_capacity room.old }
     requires text { most_said watcher.old.header.k ≤ vec_capacity text.old }
     requires fine { I.ended inputs.old ≡ Fine }
@@ -94,14 +94,14 @@ fn talk_over<I: Inputs, O: Sink, F: Picker>(
     inputs: &mut I,
     out: &mut O,
 ) -> Status
-    requires fresh { IsFresh F.picks watcher.old }
+    requires fresh { IsFreshWatcher F.picks watcher.old }
     requires room { 5 + most_claim ≤ vec_capacity room.old }
     requires text { most_said watcher.old.header.k ≤ vec_capacity text.old }
     ensures talk { TellsOver I.Inputs O.Sink (watching watcher.old.header watcher.old.plan) Some to.file
         (string_bytes to.name) inputs.old inputs.new out.old out.new result }
     ensures other { result ≢ Usage }
-    ensures input_faults { I.faults inputs.new ≡ input_count (kind_of result) (I.faults inputs.old) }
-    ensures output_faults { O.faults out.new ≡ output_count (kind_of result) (O.faults out.old) }
+    ensures input_faults { I.faults inputs.new ≡ input_count (status_kind result) (I.faults inputs.old) }
+    ensures output_faults { O.faults out.new ≡ output_count (status_kind result) (O.faults out.old) }
     ensures files { I.files inputs.new ≡ I.files inputs.old }
     ensures told { IsSome (O.taken out.old) ↔ IsSome (O.taken out.new) }
 {
@@ -128,8 +128,8 @@ fn answer_picked<I: Inputs, O: Sink, F: Picker>(
         ⊎ TellsOver I.Inputs O.Sink (watching drawn.entry.header.now drawn.entry.cells.now) Some
         to.file (string_bytes to.name) inputs.old inputs.new out.old out.new result }
     ensures other { result ≢ Usage }
-    ensures input_faults { I.faults inputs.new ≡ input_count (kind_of result) (I.faults inputs.old) }
-    ensures output_faults { O.faults out.new ≡ output_count (kind_of result) (O.faults out.old) }
+    ensures input_faults { I.faults inputs.new ≡ input_count (status_kind result) (I.faults inputs.old) }
+    ensures output_faults { O.faults out.new ≡ output_count (status_kind result) (O.faults out.old) }
     ensures files { I.files inputs.new ≡ I.files inputs.old }
     ensures told { IsSome (O.taken out.old) ↔ IsSome (O.taken out.new) }
 {
@@ -161,8 +161,8 @@ fn answer_plan<I: Inputs, O: Sink>(
         ⊎ TellsOver I.Inputs O.Sink (watching header.now cells.now) Some to.file
         (string_bytes to.name) inputs.old inputs.new out.old out.new result }
     ensures other { result ≢ Usage }
-    ensures input_faults { I.faults inputs.new ≡ input_count (kind_of result) (I.faults inputs.old) }
-    ensures output_faults { O.faults out.new ≡ output_count (kind_of result) (O.faults out.old) }
+    ensures input_faults { I.faults inputs.new ≡ input_count (status_kind result) (I.faults inputs.old) }
+    ensures output_faults { O.faults out.new ≡ output_count (status_kind result) (O.faults out.old) }
     ensures files { I.files inputs.new ≡ I.files inputs.old }
     ensures told { IsSome (O.taken out.old) ↔ IsSome (O.taken out.new) }
 {
@@ -191,8 +191,8 @@ fn answer_key<I: Inputs, O: Sink>(
     ensures course { WatchesOver I.Inputs O.Sink inputs.old inputs.new out.old out.new header.now draws.key
         draws.count to.file (string_bytes to.name) result }
     ensures other { result ≢ Usage }
-    ensures input_faults { I.faults inputs.new ≡ input_count (kind_of result) (I.faults inputs.old) }
-    ensures output_faults { O.faults out.new ≡ output_count (kind_of result) (O.faults out.old) }
+    ensures input_faults { I.faults inputs.new ≡ input_count (status_kind result) (I.faults inputs.old) }
+    ensures output_faults { O.faults out.new ≡ output_count (status_kind result) (O.faults out.old) }
     ensures files { I.files inputs.new ≡ I.files inputs.old }
     ensures told { IsSome (O.taken out.old) ↔ IsSome (O.taken out.new) }
 {
@@ -215,8 +215,8 @@ fn answer_header<I: Inputs, O: Sink>(
     ensures course { WatchesUnder I.Inputs O.Sink inputs.old inputs.new out.old out.new header.now
         words.key words.count (string_bytes names.key) (string_bytes names.talk) result }
     ensures other { result ≢ Usage }
-    ensures input_faults { I.faults inputs.new ≡ input_count (kind_of result) (I.faults inputs.old) }
-    ensures output_faults { O.faults out.new ≡ output_count (kind_of result) (O.faults out.old) }
+    ensures input_faults { I.faults inputs.new ≡ input_count (status_kind result) (I.faults inputs.old) }
+    ensures output_faults { O.faults out.new ≡ output_count (status_kind result) (O.faults out.old) }
     ensures files { I.files inputs.new ≡ I.files inputs.old }
     ensures told { IsSome (O.taken out.old) ↔ IsSome (O.taken out.new) }
 {
@@ -261,8 +261,8 @@ pub(crate) fn answer_watch<I: Inputs, O: Sink>(
     ensures course { AnswersWatch I.Inputs O.Sink (words_of words.now) inputs.old inputs.new out.old
         out.new result }
     ensures other { result ≢ Usage }
-    ensures input_faults { I.faults inputs.new ≡ input_count (kind_of result) (I.faults inputs.old) }
-    ensures output_faults { O.faults out.new ≡ output_count (kind_of result) (O.faults out.old) }
+    ensures input_faults { I.faults inputs.new ≡ input_count (status_kind result) (I.faults inputs.old) }
+    ensures output_faults { O.faults out.new ≡ output_count (status_kind result) (O.faults out.old) }
     ensures files { I.files inputs.new ≡ I.files inputs.old }
     ensures told { IsSome (O.taken out.old) ↔ IsSome (O.taken out.new) }
 {

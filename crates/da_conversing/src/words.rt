@@ -4,7 +4,7 @@ ghost use Rattle.std.specs.Prelude.{◌≡◌, ◌<◌, [], get_or, length, IfOk
 ghost use Rattle.std.specs.String.{string_bytes};
 ghost use Rattle.da_cli.specs.Values.{is_command};
 ghost use Rattle.da_cli.specs.Words.{words_of};
-ghost use Rattle.da_conversing.specs.Words.{is_talk_word, is_talk, has_talk, key_word, is_key_input, is_once, watch_of, has_watch, watch_call, talk_file, key_file_name};
+ghost use Rattle.da_conversing.specs.Words.{is_talk_word, is_talk, has_talk, key_given, is_key_input, is_once, watch_of, has_watch, watch_call, talk_file, key_file_name};
 
 use da_cli::{is_key_name, key_in, key_name, number_in};
 use da_io::{NoMemory, is_standard_input};
@@ -67,7 +67,7 @@ pub(crate) fn has_talk(word: &str, words: &[String]) -> bool
 
 /// The key that KEY is, or that it names a file of one.
 fn key_word(word: &str) -> Option<KeyWord>
-    ensures { result ≡ key_word word.now }
+    ensures { result ≡ key_given word.now }
 {
     if is_key_name(word) {
         return Some(KeyWord::Named);

@@ -5,7 +5,7 @@ use Rattle.data_header.specs.Headers.{Roots}
 use Rattle.axis_roots.specs.declared.message.messages.Message.{Message}
 use Rattle.axis_roots.specs.declared.message.messages.CheckRefusal.{CheckRefusal}
 use Rattle.axis_roots.specs.Messages.{message_refusal}
-use Rattle.repair_queue.specs.SessionParts.{SessionParts, StandsFor}
+use Rattle.repair_queue.specs.SessionParts.{SessionParts, SessionStands}
 use Rattle.da_demo.specs.declared.gathering.Gathered.{Gathered}
 use Rattle.namespace_id.specs.declared.shares.Share.{Share}
 use Rattle.namespace_id.specs.Lists.{ascending}
@@ -33,7 +33,7 @@ lies_more header ms m =
 -- a sample that is proved is fed
 pub take_kept : (header : Roots) (ms : List Message) (m : Message) (old new : Gathered)
     → IsGathered header ms old → message_refusal header m ≡ None → new.session.header ≡ header
-    → StandsFor new.session (proved_of header ms ++ m ∷ []) → new.proved ≡ old.proved + 1 → new.lies ≡ old.lies
+    → SessionStands new.session (proved_of header ms ++ m ∷ []) → new.proved ≡ old.proved + 1 → new.lies ≡ old.lies
     → IsGathered header (ms ++ m ∷ []) new
 take_kept header ms m old new before holds under fed count lies =
     let all : proved_of header ms ++ m ∷ [] ≡ proved_of header (ms ++ m ∷ []) =
@@ -41,7 +41,7 @@ take_kept header ms m old new before holds under fed count lies =
     ∙ sym (proved_more header ms m) in
     record {
       under = under;
-      fed = subst (StandsFor new.session) all fed;
+      fed = subst (SessionStands new.session) all fed;
       proved = count ∙ ap (λ (n : ℕ). n + 1) before.proved
           ∙ sym (length-append (proved_of header ms) (m ∷ [])) ∙ ap length all;
       lies = lies ∙ before.lies
@@ -62,8 +62,8 @@ take_lie header ms m old new before fails session proved lies =
     ∙ append-nil (proved_of header ms)) in
     record {
       under = ap (λ (s : SessionParts). s.header) session ∙ before.under;
-      fed = subst (λ (s : SessionParts). StandsFor s (proved_of header (ms ++ m ∷ []))) (sym session)
-          (subst (StandsFor old.session) same before.fed);
+      fed = subst (λ (s : SessionParts). SessionStands s (proved_of header (ms ++ m ∷ []))) (sym session)
+          (subst (SessionStands old.session) same before.fed);
       proved = proved ∙ before.proved ∙ ap length same;
       lies = lies ∙ ap (λ (n : ℕ). n + 1) before.lies
           ∙ sym (lies_more header ms m

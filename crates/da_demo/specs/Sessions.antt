@@ -49,11 +49,11 @@ abbrev pub half_among : ℕ → List Share → List Cell → List Message
 half_among k grid cells = map (λ cell. message_at k grid cell (axis_of cell)) (filter is_even cells)
 
 -- those among all cells, from the last one back
-abbrev pub half_of : ℕ → List Share → List Message
-half_of k grid = half_among k grid (reverse (all_cells k))
+abbrev pub trial_half : ℕ → List Share → List Message
+trial_half k grid = half_among k grid (reverse (all_cells k))
 
 abbrev pub first_messages : ℕ → List Share → List Message
-first_messages k grid = lies_of k grid ++ half_of k grid
+first_messages k grid = lies_of k grid ++ trial_half k grid
 
 -- ---- the second session: a grid whose last row is no codeword, under its own header
 

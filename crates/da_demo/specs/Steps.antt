@@ -14,11 +14,11 @@ use Rattle.da_demo.specs.Sessions.{proved_of, refused_of, first_messages, second
 use Rattle.da_demo.specs.Trials.{IsOutcome, IsUpheld}
 
 -- the claim of an answer, where it has one
-abbrev pub claim_in : VerdictParts → Option ClaimParts
-claim_in (whole square) = None
-claim_in (missing cells) = None
-claim_in (fraud claim) = Some claim
-claim_in (clash left right) = None
+abbrev pub verdict_claim : VerdictParts → Option ClaimParts
+verdict_claim (whole square) = None
+verdict_claim (missing cells) = None
+verdict_claim (fraud claim) = Some claim
+verdict_claim (clash left right) = None
 
 -- what comes of the first session over a grid
 pub record IsFirst (k : ℕ) (grid : List Share) (square : SquareShares) (first : First) : Type 0 where

@@ -4,7 +4,7 @@ use Rattle.namespace_id.specs.declared.shares.Share.{Share}
 use Rattle.data_header.specs.Headers.{Roots}
 use Rattle.data_header.specs.DataRoots.{data_root_of}
 use Rattle.square_layout.specs.Blocks.{SquareShares}
-use Rattle.square_layout.specs.Layout.{square_of}
+use Rattle.square_layout.specs.Layout.{block_square}
 use Rattle.axis_roots.specs.Grids.{Extends, header_of_grid}
 use Rattle.axis_roots.specs.Claims.{Accepts}
 use Rattle.repair_queue.specs.Verdicts.{VerdictParts, whole, missing, fraud, clash, IsVerdict}
@@ -37,7 +37,7 @@ IsUpheld header verdict told = ⊥
 -- session, by lies and half of the cells; a grid whose last share is spoiled, and its header; the second session
 pub record IsTrial (number k : ℕ) (trial : Trial) : Type 0 where
   pub grid : List Share
-  pub extends : Extends k (square_of (drawn_block number k)).shares grid
+  pub extends : Extends k (block_square (drawn_block number k)).shares grid
   pub header : Roots
   pub own : header_of_grid k grid ≡ Some header
   pub width : trial.k ≡ k
@@ -48,7 +48,7 @@ pub record IsTrial (number k : ℕ) (trial : Trial) : Type 0 where
   pub lies : trial.lies ≡ length (refused_of header (first_messages k grid))
   pub one : VerdictParts
   pub one_answers : IsVerdict header (proved_of header (first_messages k grid)) one
-  pub first : IsOutcome (square_of (drawn_block number k)) one trial.first
+  pub first : IsOutcome (block_square (drawn_block number k)) one trial.first
   -- the second session
   pub other : List Share
   pub cheat : IsCheat k grid other
@@ -56,5 +56,5 @@ pub record IsTrial (number k : ℕ) (trial : Trial) : Type 0 where
   pub others : header_of_grid k other ≡ Some cheated
   pub two : VerdictParts
   pub two_answers : IsVerdict cheated (proved_of cheated (second_messages k other)) two
-  pub second : IsOutcome (square_of (drawn_block number k)) two trial.second
+  pub second : IsOutcome (block_square (drawn_block number k)) two trial.second
   pub upheld : IsUpheld cheated two trial.upheld

@@ -3,9 +3,9 @@
 ghost use Rattle.std.specs.Prelude.{◌≡◌, ◌↔◌, IsTrue, IfOk, map, option_map};
 ghost use Rattle.axis_roots.specs.Proved.{kept_message};
 ghost use Rattle.repair_queue.specs.Verdicts.{VerdictParts};
-ghost use Rattle.repair_queue.specs.Answers.{parts_of};
+ghost use Rattle.repair_queue.specs.Answers.{verdict_parts};
 ghost use Rattle.da_demo.specs.Trials.{IsOutcome, IsUpheld};
-ghost use Rattle.da_demo.specs.Steps.{claim_in};
+ghost use Rattle.da_demo.specs.Steps.{verdict_claim};
 
 use crate::{Outcome, Upheld};
 use axis_roots::{FraudClaim, FraudProof, Message, Proved};
@@ -26,8 +26,8 @@ fn is_same(one: &Square, other: &Square) -> bool
 /// Takes the answer of a repair apart: what is told of it where this square was laid out, and its
 /// fraud proof, where it has one.
 pub(crate) fn tell(verdict: Verdict, square: &Square) -> (Outcome, Option<FraudProof>)
-    ensures outcome { IsOutcome square.now (parts_of verdict) result.0 }
-    ensures proof { claim_in (parts_of verdict) ≡ option_map (λ proof. proof.claim) result.1 }
+    ensures outcome { IsOutcome square.now (verdict_parts verdict) result.0 }
+    ensures proof { verdict_claim (verdict_parts verdict) ≡ option_map (λ proof. proof.claim) result.1 }
 {
     cells_laws();
     match verdict {
@@ -73,7 +73,7 @@ pub(crate) fn judge(
     proof: Option<FraudProof>,
 ) -> Result<Upheld, NoMemory>
     ensures { (verdict : VerdictParts) →
-        claim_in verdict ≡ option_map (λ proof. proof.claim) proof →
+        verdict_claim verdict ≡ option_map (λ proof. proof.claim) proof →
         IfOk result (IsUpheld header.now verdict) }
 {
     let Some(proof) = proof else {

@@ -5,7 +5,7 @@ ghost use Rattle.namespace_id.specs.Cells.{is_width};
 ghost use Rattle.namespace_id.specs.Lists.{holds_along};
 ghost use Rattle.namespace_id.specs.Names.{is_at_most};
 ghost use Rattle.namespace_id.specs.Shares.{name_in};
-ghost use Rattle.square_layout.specs.Layout.{square_of};
+ghost use Rattle.square_layout.specs.Layout.{block_square};
 ghost use Rattle.square_layout.specs.Refusals.{layout_refusal};
 ghost use Rattle.axis_roots.specs.Grids.{Extends, header_of_grid};
 ghost use Rattle.da_demo.specs.Sessions.{IsCheat};
@@ -23,7 +23,7 @@ use std::alloc::Global;
 /// The square of a block that has one.
 fn laid(alloc: Global, block: &Block) -> Result<Square, NoMemory>
     requires { layout_refusal block.now ≡ None }
-    ensures square { IfOk result (λ square. square ≡ square_of block.now) }
+    ensures square { IfOk result (λ square. square ≡ block_square block.now) }
     ensures names { IfOk result (λ square.
         holds_along is_at_most (map name_in square.shares) ≡ true) }
 {

@@ -5,13 +5,13 @@ use Rattle.namespace_id.specs.Bytes.{AreBytes}
 use Rattle.namespace_id.proofs.WidthLemmas.{is_width-le}
 use Rattle.axis_roots.specs.Claims.{ClaimParts}
 use Rattle.frame_payloads.specs.kinds.Fraud.{fits_form, is_unwritten}
-use Rattle.celestia_pb.specs.Befp.{has_message, befp_value}
+use Rattle.celestia_pb.specs.Befp.{claim_has_message, befp_value}
 use Rattle.celestia_pb.specs.BefpLaws.{ReadIsBefp}
 use Rattle.celestia_pb.proofs.BefpLemmas.{tested}
 use Rattle.da_exchanging.proofs.AnswerLemmas.{not_above}
 
 -- a claim that has a message has no set, and few cells
-message_written : (k : ℕ) (claim : ClaimParts) → has_message k claim ≡ true → is_unwritten claim ≡ false
+message_written : (k : ℕ) (claim : ClaimParts) → claim_has_message k claim ≡ true → is_unwritten claim ≡ false
 message_written k claim has =
     let is = tested k claim has in
     let few : length claim.cells ≤ 512 = omega (arith, is.count, is_width-le k is.width) in

@@ -9,7 +9,7 @@ use Rattle.da_wire.specs.declared.frames.Frame.TheVariants.{Header, Square, Requ
 use Rattle.celestia_pb.specs.RowData.{row_value}
 use Rattle.celestia_pb.specs.Befp.{befp_value}
 use Rattle.da_status.specs.declared.status.Status.{Status}
-use Rattle.da_status.specs.Statuses.{kind_of}
+use Rattle.da_status.specs.Statuses.{status_kind}
 use Rattle.da_status.proofs.EndLemmas.{IsAnswer}
 use Rattle.da_files.specs.Frames.{header_in, message_in, square_in}
 use Rattle.da_exchanging.specs.declared.forms.ImportForm.{ImportForm}
@@ -18,7 +18,7 @@ use Rattle.da_exchanging.specs.declared.forms.ExportForm.{ExportForm}
 use Rattle.da_exchanging.specs.declared.forms.ExportForm.TheVariants as to
 use Rattle.da_exchanging.specs.Sample.{sample_frame, message_text}
 use Rattle.da_exchanging.specs.Ids.{asked_cell_in, asked_name_in, row_request}
-use Rattle.da_exchanging.specs.Answers.{answer_in}
+use Rattle.da_exchanging.specs.Answers.{ns_answer_in}
 use Rattle.da_exchanging.specs.RowData.{row_frame, answer_message}
 use Rattle.da_exchanging.specs.Befp.{claim_in, claim_message}
 use Rattle.da_exchanging.specs.Forms.{ImportOf, ExportOf}
@@ -29,7 +29,7 @@ use Rattle.da_exchanging.proofs.NamespaceDataLemmas as stream
 use Rattle.da_exchanging.proofs.RowLemmas as half
 
 -- what import answers to its files is an answer
-pub import_answers : (form : ImportForm) (files : List (List ℕ)) (w : List ℕ) (status : Status) → ImportOf form files w status → IsAnswer (kind_of status)
+pub import_answers : (form : ImportForm) (files : List (List ℕ)) (w : List ℕ) (status : Status) → ImportOf form files w status → IsAnswer (status_kind status)
 import_answers from.Dah files w status h = frames_answer dah_value Header files w status h
 import_answers from.Header files w status h = header_answers files w status h
 import_answers (from.Sample cell) files w status h = frames_answer (sample_value cell) (sample_frame cell) files w status h
@@ -43,10 +43,10 @@ import_answers (from.SampleId height) files w status h = frames_answer (sample_i
 import_answers (from.NamespaceId height) files w status h = frames_answer (namespace_id_value height) Request files w status h
 
 -- what export answers to its files is
-pub export_answers : (form : ExportForm) (files : List (List ℕ)) (w : List ℕ) (status : Status) → ExportOf form files w status → IsAnswer (kind_of status)
+pub export_answers : (form : ExportForm) (files : List (List ℕ)) (w : List ℕ) (status : Status) → ExportOf form files w status → IsAnswer (status_kind status)
 export_answers to.Dah files w status h = texts_answer header_in dah_text files w status h
 export_answers to.Sample files w status h = texts_answer message_in message_text files w status h
-export_answers to.RowData files w status h = texts_if_answer answer_in (λ read. answer_message read.1) files w status h
+export_answers to.RowData files w status h = texts_if_answer ns_answer_in (λ read. answer_message read.1) files w status h
 export_answers (to.Befp k hash height) files w status h = texts_if_answer claim_in (claim_message k hash height) files w status h
 export_answers to.NamespaceData files w status h = stream.export_answers files w status h
 export_answers to.Row files w status h = half.export_answers files w status h

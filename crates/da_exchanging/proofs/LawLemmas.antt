@@ -22,8 +22,8 @@ use Rattle.celestia_pb.specs.Ods.{ods_text, ods_value, OdsIsRead, ReadIsOds}
 use Rattle.celestia_pb.specs.Befp.{befp_text, befp_value}
 use Rattle.celestia_pb.specs.Befp as claims
 use Rattle.celestia_pb.specs.BefpLaws as befp
-use Rattle.celestia_pb.specs.RowData.{has_message, found_text, row_value}
-use Rattle.celestia_pb.specs.RowDataLaws.{HasMessage, RowIsRead, ReadIsRow}
+use Rattle.celestia_pb.specs.RowData.{found_has_message, found_message, row_value}
+use Rattle.celestia_pb.specs.RowDataLaws.{FoundHasMessage, RowIsRead, ReadIsRow}
 use Rattle.da_wire.specs.declared.frames.Frame.{Frame}
 use Rattle.da_wire.specs.declared.frames.Frame.TheVariants as frames
 use Rattle.da_wire.specs.Spelling.{spelling, IsFrame, header_kind, square_kind, message_kind, names_kind, fraud_kind, sample_kind, request_kind}
@@ -38,7 +38,7 @@ use Rattle.da_status.specs.declared.status.Status.TheVariants.{Done, BadInput, B
 use Rattle.da_status.specs.Judging.{Judged}
 use Rattle.da_status.specs.Outcome.{Relation}
 use Rattle.da_files.specs.Contents.{file_of}
-use Rattle.da_files.specs.Frames.{single, error_of, Writes, WritesText}
+use Rattle.da_files.specs.Frames.{single_file, error_of, Writes, WritesText}
 use Rattle.da_files.specs.Requests.{namespace_of}
 use Rattle.da_files.specs.Forms.{Over, single_judged}
 use Rattle.da_files.proofs.FormLemmas.{single_is}
@@ -48,7 +48,7 @@ use Rattle.da_exchanging.specs.declared.forms.ExportForm.TheVariants as to
 use Rattle.da_exchanging.specs.Made.{WritesIf}
 use Rattle.da_exchanging.specs.Sample.{sample_frame, message_text}
 use Rattle.da_exchanging.specs.Ids.{cell_of, row_request}
-use Rattle.da_exchanging.specs.Answers.{answer_of}
+use Rattle.da_exchanging.specs.Answers.{ns_answer_of}
 use Rattle.da_exchanging.specs.RowData.{row_frame, answer_message}
 use Rattle.da_exchanging.specs.Befp.{claim_message}
 use Rattle.da_exchanging.proofs.MadeLemmas.{has_written}
@@ -72,12 +72,12 @@ module _ {A B : Type 0} (value : List ℕ → Result A ℕ) (frame : A → Frame
   -- `export` makes these bytes of this text
   abbrev Told : List ℕ → List ℕ → Type 0
   Told text bytes =
-      Judged (single_judged (λ b. single of (only_of b kinds)) (text ∷ [])) (Over (single of (only_of (file_of (text ∷ []) 0) kinds)) Answer) bytes Done
+      Judged (single_judged (λ b. single_file of (only_of b kinds)) (text ∷ [])) (Over (single_file of (only_of (file_of (text ∷ []) 0) kinds)) Answer) bytes Done
 
   -- a frame of the kind that has a value is read as the value
-  told_value : (text : List ℕ) (x : A) → of (frame x) ≡ Some (shown x) → only_of text kinds ≡ Ok (frame x) → single of (only_of text kinds) ≡ Ok (shown x)
+  told_value : (text : List ℕ) (x : A) → of (frame x) ≡ Some (shown x) → only_of text kinds ≡ Ok (frame x) → single_file of (only_of text kinds) ≡ Ok (shown x)
   told_value text x seen read =
-      ap (single of) read ∙ ap (λ (o : Option B). option_map_or {U = Result B ℕ} Ok o (Err 0)) seen
+      ap (single_file of) read ∙ ap (λ (o : Option B). option_map_or {U = Result B ℕ} Ok o (Err 0)) seen
 
   -- a value that was read of bytes is one of the kind, and the bytes answer it
   abbrev Goes : List ℕ → A → Type 0
@@ -86,12 +86,12 @@ module _ {A B : Type 0} (value : List ℕ → Result A ℕ) (frame : A → Frame
   -- by what is read of the bytes
   exported_by : SpelledIsOnly → (bytes text : List ℕ) (read : Result A ℕ) → ((x : A) → read ≡ Ok x → Goes bytes x)
       → Judged (error_of read ∷ []) (Over read (λ x. Writes (frame x))) text Done
-      → Judged (error_of (single of (only_of text kinds)) ∷ []) (Over (single of (only_of text kinds)) Answer) bytes Done
+      → Judged (error_of (single_file of (only_of text kinds)) ∷ []) (Over (single_file of (only_of text kinds)) Answer) bytes Done
   exported_by again bytes text (Err at) law h = absurd (not_refused 0 at h.1)
   exported_by again bytes text (Ok x) law h =
       let goes = law x refl in
       let read = told_value text x goes.2 (again (frame x) text kinds goes.0 h.0 goes.1) in
-      subst (λ (R : Relation). R bytes Done) (single_is Answer (single of (only_of text kinds)) (shown x) read) goes.3
+      subst (λ (R : Relation). R bytes Done) (single_is Answer (single_file of (only_of text kinds)) (shown x) read) goes.3
 
   -- what is imported is exported
   pub exported_back : SpelledIsOnly → (bytes text : List ℕ) → ((x : A) → value bytes ≡ Ok x → Goes bytes x) → Made bytes text → Told text bytes
@@ -112,18 +112,18 @@ module _ {A B : Type 0} (value : List ℕ → Result A ℕ) (frame : A → Frame
       subst (λ (R : Relation). R text Done) (single_is (λ (x : A). Writes (frame x)) (value bytes) comes.0 comes.1) (comes.2, refl)
 
   -- what is exported is imported as another text
-  pub imported_as : (bytes text again : List ℕ) → ((y : B) → single of (only_of text kinds) ≡ Ok y → Answer y bytes Done → Comes bytes again)
+  pub imported_as : (bytes text again : List ℕ) → ((y : B) → single_file of (only_of text kinds) ≡ Ok y → Answer y bytes Done → Comes bytes again)
       → Told text bytes → Made bytes again
   unfolding file_of
-  imported_as bytes text again law h = imported_by bytes again (single of (only_of text kinds)) law h
+  imported_as bytes text again law h = imported_by bytes again (single_file of (only_of text kinds)) law h
 
   -- what is exported is imported
-  pub imported_back : (bytes text : List ℕ) → ((y : B) → single of (only_of text kinds) ≡ Ok y → Answer y bytes Done → Comes bytes text) → Told text bytes → Made bytes text
+  pub imported_back : (bytes text : List ℕ) → ((y : B) → single_file of (only_of text kinds) ≡ Ok y → Answer y bytes Done → Comes bytes text) → Told text bytes → Made bytes text
   imported_back bytes text law h = imported_as bytes text text law h
 
 -- a file that is read as a value is the one spelling of the value's frame
 pub file_spelled : {A : Type 0} (of : Frame → Option A) (make : A → Frame) → ((frame : Frame) (x : A) → of frame ≡ Some x → frame ≡ make x)
-    → ((x : A) → of (make x) ≡ Some x) → OnlyIsSpelled → (kinds text : List ℕ) (x : A) → AreBytes text → single of (only_of text kinds) ≡ Ok x
+    → ((x : A) → of (make x) ≡ Some x) → OnlyIsSpelled → (kinds text : List ℕ) (x : A) → AreBytes text → single_file of (only_of text kinds) ≡ Ok x
     → IsFrame (make x) × (spelling (make x) ≡ Some text)
 file_spelled of make is_made is_value only kinds text x fits e =
     let is = (only (make x) text kinds fits).0 (single_value of make is_made is_value (only_of text kinds) x e) in (is.0, is.1)
@@ -193,21 +193,21 @@ sample_imported only law = λ bytes text m fits read told.
 -- ---- what is found in a row
 
 -- a frame of an answer is that answer's
-pub answer_made : (frame : Frame) (x : names.Namespace × List NsEntry) → answer_of frame ≡ Some x → frame ≡ frames.Names x.0 x.1
+pub answer_made : (frame : Frame) (x : names.Namespace × List NsEntry) → ns_answer_of frame ≡ Some x → frame ≡ frames.Names x.0 x.1
 answer_made (frames.Names name entries) x e = ap (λ (y : names.Namespace × List NsEntry). frames.Names y.0 y.1) (same_Some (name, entries) x e)
 answer_made frame x e = absurd cc
 
 pub row_data_exported : SpelledIsOnly → ReadIsRow → (row : ℕ) (name : names.Namespace) → row < 2 ^ 16 → IsNamespace name
     → IsExportedBack (from.RowData row name) to.RowData
 row_data_exported again law row name short is_name = λ bytes text fits made.
-    exported_back (row_value row) (row_frame name) (λ x. (name, x ∷ [])) answer_of (names_kind ∷ []) (λ read. WritesIf (answer_message read.1)) again bytes text
+    exported_back (row_value row) (row_frame name) (λ x. (name, x ∷ [])) ns_answer_of (names_kind ∷ []) (λ read. WritesIf (answer_message read.1)) again bytes text
     (λ x e.
     let is = law row bytes x fits e in
     let entry : IsEntry x = record { row = subst (λ (n : ℕ). n < 2 ^ 16) (sym is.0) short; found = is.1.is } in (
       (is_name, (entry, tt)),
       refl,
       refl,
-      subst (λ (b : Bool). WritesIf (cond b (Some (found_text x.found)) None) bytes Done) (sym is.1.has) (is.2, refl),
+      subst (λ (b : Bool). WritesIf (cond b (Some (found_message x.found)) None) bytes Done) (sym is.1.has) (is.2, refl),
     ))
     made
 
@@ -218,13 +218,13 @@ written_message false bytes text h = absurd (not_asked Form h.1)
 
 pub row_data_imported : OnlyIsSpelled → RowIsRead → RowDataIsImportedBack
 row_data_imported only law = λ bytes text name entry fits read told.
-    imported_back (row_value entry.row) (row_frame name) (λ x. (name, x ∷ [])) answer_of (names_kind ∷ []) (λ read. WritesIf (answer_message read.1)) bytes text
+    imported_back (row_value entry.row) (row_frame name) (λ x. (name, x ∷ [])) ns_answer_of (names_kind ∷ []) (λ read. WritesIf (answer_message read.1)) bytes text
     (λ y e answer.
-    let is = file_spelled answer_of (λ x. frames.Names x.0 x.1) answer_made (λ x. refl) only (names_kind ∷ []) text (name, entry ∷ []) fits read in
+    let is = file_spelled ns_answer_of (λ x. frames.Names x.0 x.1) answer_made (λ x. refl) only (names_kind ∷ []) text (name, entry ∷ []) fits read in
     let same = same_ok y (name, entry ∷ []) (sym e ∙ read) in
-    let written = written_message (has_message entry.found) bytes (found_text entry.found)
+    let written = written_message (found_has_message entry.found) bytes (found_message entry.found)
     (subst (λ (x : names.Namespace × List NsEntry). WritesIf (answer_message x.1) bytes Done) same answer) in
-    let has : HasMessage entry.found = record { is = is.0.1.0.found; has = written.0 } in
+    let has : FoundHasMessage entry.found = record { is = is.0.1.0.found; has = written.0 } in
     (entry, ap (row_value entry.row) written.1 ∙ law entry.row entry.found has, is.1))
     told
 
@@ -268,7 +268,7 @@ sample_id_imported only law = λ height bytes text again cell axis fits read spe
     imported_as (sample_id_value height) row_request (λ x. x) cell_of (sample_kind ∷ []) (λ x. WritesText Done (sample_id_text height x)) bytes text again
     (λ y e answer.
     let is = (only (frames.Sample cell axis) text (sample_kind ∷ []) fits).0 read in
-    let same : y ≡ cell = same_ok y cell (sym e ∙ ap (single cell_of) read) in
+    let same : y ≡ cell = same_ok y cell (sym e ∙ ap (single_file cell_of) read) in
     let of_cell : IsCell cell = record { row = is.0.row; col = is.0.col } in
     (cell, ap (sample_id_value height) (answer.0 ∙ ap (sample_id_text height) same) ∙ law height cell of_cell, spelled))
     told

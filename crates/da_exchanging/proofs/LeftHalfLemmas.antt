@@ -12,7 +12,7 @@ use Rattle.da_wire.specs.Spelling.{message_kind}
 use Rattle.da_wire.specs.Reading.{is_among}
 use Rattle.da_wire.specs.Writing.{kind_of}
 use Rattle.da_wire.specs.Single.{message_of}
-use Rattle.da_exchanging.specs.LeftHalf.{samples_in, is_at, shares_along}
+use Rattle.da_exchanging.specs.LeftHalf.{file_samples, is_at, shares_along}
 
 -- a frame of this kind is a sample
 pub message_there : (frame : Frame) → is_among (message_kind ∷ []) (kind_of frame) ≡ true → IsSome (message_of frame)
@@ -74,16 +74,16 @@ module _ (row col : ℕ) (all : Option (List Share)) (shares : List Share) (left
 
 -- none does
 pub none_left : (found : Option (sent.Message × Bor (List ℕ))) (bytes : List ℕ) → found ≡ None
-    → MatchOption found (samples_in bytes ≡ []) (λ x. samples_in bytes ≡ x.0 ∷ samples_in x.1.now) → samples_in bytes ≡ []
+    → MatchOption found (file_samples bytes ≡ []) (λ x. file_samples bytes ≡ x.0 ∷ file_samples x.1.now) → file_samples bytes ≡ []
 none_left None bytes is h = h
 none_left (Some x) bytes is h = absurd cc
 
 -- one does
 pub one_left : (found : Option (sent.Message × Bor (List ℕ))) (bytes : List ℕ) (m : sent.Message) (after : Bor (List ℕ)) → found ≡ Some (m, after)
-    → MatchOption found (samples_in bytes ≡ []) (λ x. samples_in bytes ≡ x.0 ∷ samples_in x.1.now) → samples_in bytes ≡ m ∷ samples_in after.now
+    → MatchOption found (file_samples bytes ≡ []) (λ x. file_samples bytes ≡ x.0 ∷ file_samples x.1.now) → file_samples bytes ≡ m ∷ file_samples after.now
 one_left None bytes m after is h = absurd cc
 one_left (Some x) bytes m after is h =
-    subst (λ (y : sent.Message × Bor (List ℕ)). samples_in bytes ≡ y.0 ∷ samples_in y.1.now) (same_Some x (m, after) is) h
+    subst (λ (y : sent.Message × Bor (List ℕ)). file_samples bytes ≡ y.0 ∷ file_samples y.1.now) (same_Some x (m, after) is) h
 
 -- and then fewer bytes are left
 pub fewer_left : (found : Option (sent.Message × Bor (List ℕ))) (bytes : List ℕ) (m : sent.Message) (after : Bor (List ℕ)) → found ≡ Some (m, after)

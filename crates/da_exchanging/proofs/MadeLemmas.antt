@@ -9,7 +9,7 @@ use Rattle.da_wire.specs.Writing.{AppendsSpelling}
 use Rattle.da_status.specs.declared.status.Asked.TheVariants.{Form}
 use Rattle.da_status.specs.declared.status.Status.{Status}
 use Rattle.da_status.specs.declared.status.Status.TheVariants.{Done, BadInput, BadRequest, Refused, NoMemory}
-use Rattle.da_status.specs.Statuses.{kind_of}
+use Rattle.da_status.specs.Statuses.{status_kind}
 use Rattle.da_status.specs.Judging.{Judged}
 use Rattle.da_status.specs.Outcome.{Relation, EndsAtOnce}
 use Rattle.da_status.proofs.EndLemmas.{IsAnswer, status_answers, ends_output, once_request, once_output}
@@ -19,13 +19,13 @@ use Rattle.da_files.specs.Contents.{file_of}
 use Rattle.da_files.specs.Frames.{error_of, ReadsSingle, Writes, WritesText}
 use Rattle.da_files.specs.Forms.{Over, single_judged}
 use Rattle.da_files.proofs.FormLemmas.{single_is, over_each}
-use Rattle.da_exchanging.specs.Made.{message_refusal, frame_refusal, IsMade, WritesIf, Frames, Texts, TextsIf}
+use Rattle.da_exchanging.specs.Made.{pb_refusal, frame_refusal, IsMadeOutput, WritesIf, Frames, Texts, TextsIf}
 
 -- ---- what is made
 
 -- what was made by a meaning that is another's
-pub made_as : (M N : Relation) (made : Result (Vec ℕ Global) Status) → M ≡ N → IsMade M made → IsMade N made
-made_as M N made e h = subst (λ (R : Relation). IsMade R made) e h
+pub made_as : (M N : Relation) (made : Result (Vec ℕ Global) Status) → M ≡ N → IsMadeOutput M made → IsMadeOutput N made
+made_as M N made e h = subst (λ (R : Relation). IsMadeOutput R made) e h
 
 -- the spelling of a frame, where it was appended to no bytes
 pub spelling_made : (frame : Frame) (fresh text : List ℕ) → fresh ≡ [] → AppendsSpelling frame fresh text → Writes frame text Done
@@ -38,7 +38,7 @@ module _ {A : Type 0} (value : List ℕ → Result A ℕ) (Answer : A → Relati
   OverFile = Judged (single_judged value files) (Over (value (file_of files 0)) Answer)
 
   -- what is made of the value that FILE is read as
-  pub read_made : (x : A) (made : Result (Vec ℕ Global) Status) → value bytes ≡ Ok x → IsMade (Answer x) made → IsMade OverFile made
+  pub read_made : (x : A) (made : Result (Vec ℕ Global) Status) → value bytes ≡ Ok x → IsMadeOutput (Answer x) made → IsMadeOutput OverFile made
   read_made x made is h =
       made_as (Answer x) OverFile made (single_is Answer (value (file_of files 0)) x (ap value (sym here) ∙ is)) h
 
@@ -49,26 +49,26 @@ module _ {A : Type 0} (value : List ℕ → Result A ℕ) (Answer : A → Relati
 
   -- nothing is made of a FILE that is no message
   message_none : {T : Type 0} (why : PbError) → ((at : ℕ) → IsErrOf {T = T} {E = PbError} (Err why) (message.At at) ↔ (value bytes ≡ Err at))
-      → IsMade OverFile (Err (message_refusal why))
+      → IsMadeOutput OverFile (Err (pb_refusal why))
   message_none (message.At at) h = bad_form at ((h at).0 refl)
   message_none message.NoMemory h = tt
 
-  pub no_message : {T : Type 0} (why : PbError) (status : Status) → status ≡ message_refusal why
-      → ((at : ℕ) → IsErrOf {T = T} {E = PbError} (Err why) (message.At at) ↔ (value bytes ≡ Err at)) → IsMade OverFile (Err status)
-  no_message {T} why status is h = subst (λ (s : Status). IsMade OverFile (Err s)) (sym is) (message_none {T = T} why h)
+  pub no_message : {T : Type 0} (why : PbError) (status : Status) → status ≡ pb_refusal why
+      → ((at : ℕ) → IsErrOf {T = T} {E = PbError} (Err why) (message.At at) ↔ (value bytes ≡ Err at)) → IsMadeOutput OverFile (Err status)
+  no_message {T} why status is h = subst (λ (s : Status). IsMadeOutput OverFile (Err s)) (sym is) (message_none {T = T} why h)
 
   -- nothing is made of a FILE that is no frame
-  frame_none : (why : Unread) → ReadsSingle (Err why) (value bytes) → IsMade OverFile (Err (frame_refusal why))
+  frame_none : (why : Unread) → ReadsSingle (Err why) (value bytes) → IsMadeOutput OverFile (Err (frame_refusal why))
   frame_none (unread.BadForm at) h = bad_form at h
   frame_none unread.NoMemory h = tt
 
-  pub no_frame : (why : Unread) (status : Status) → status ≡ frame_refusal why → ReadsSingle (Err why) (value bytes) → IsMade OverFile (Err status)
-  no_frame why status is h = subst (λ (s : Status). IsMade OverFile (Err s)) (sym is) (frame_none why h)
+  pub no_frame : (why : Unread) (status : Status) → status ≡ frame_refusal why → ReadsSingle (Err why) (value bytes) → IsMadeOutput OverFile (Err status)
+  no_frame why status is h = subst (λ (s : Status). IsMadeOutput OverFile (Err s)) (sym is) (frame_none why h)
 
 -- the frame of the value that FILE is read as
 pub frame_made : {A : Type 0} (value : List ℕ → Result A ℕ) (frame : A → Frame) (files : List (List ℕ)) (bytes : List ℕ) (here : bytes ≡ file_of files 0)
-    (x : A) (shown : Frame) (made : Result (Vec ℕ Global) Status) → value bytes ≡ Ok x → shown ≡ frame x → IsMade (Writes shown) made
-    → IsMade (Judged (single_judged value files) (Frames value frame files)) made
+    (x : A) (shown : Frame) (made : Result (Vec ℕ Global) Status) → value bytes ≡ Ok x → shown ≡ frame x → IsMadeOutput (Writes shown) made
+    → IsMadeOutput (Judged (single_judged value files) (Frames value frame files)) made
 frame_made value frame files bytes here x shown made is same h =
     read_made value (λ y. Writes (frame y)) files bytes here x made is (made_as (Writes shown) (Writes (frame x)) made (ap Writes same) h)
 
@@ -88,7 +88,7 @@ made_written M text shown made same w status writes =
     subst (λ (s : Status). M w s) (sym writes.1) (subst (λ (l : List ℕ). M l Done) (sym (writes.0 ∙ same)) made)
 
 -- where nothing was made, nothing is written
-pub made_refused : (M : Relation) (old : Option (List ℕ)) (before : ℕ) (Same : Type 0) (status : Status) → IsMade M (Err status) → Same
+pub made_refused : (M : Relation) (old : Option (List ℕ)) (before : ℕ) (Same : Type 0) (status : Status) → IsMadeOutput M (Err status) → Same
     → EndsAtOnce M old old before before Same status
 made_refused M old before Same (BadInput i at) made same = record {
   ends = record {
@@ -120,22 +120,22 @@ made_refused M old before Same status made same = absurd made
 
 -- the frame of what a file is is an answer
 pub frames_answer : {A : Type 0} (value : List ℕ → Result A ℕ) (frame : A → Frame) (files : List (List ℕ)) (w : List ℕ) (status : Status)
-    → Frames value frame files w status → IsAnswer (kind_of status)
+    → Frames value frame files w status → IsAnswer (status_kind status)
 frames_answer {A} value frame files w status h =
-    over_each (λ (x : A). Writes (frame x)) (value (file_of files 0)) w status (IsAnswer (kind_of status)) (λ x is. status_answers status Done is.1 tt) h
+    over_each (λ (x : A). Writes (frame x)) (value (file_of files 0)) w status (IsAnswer (status_kind status)) (λ x is. status_answers status Done is.1 tt) h
 
 -- the bytes of what a file is are
 pub texts_answer : {A : Type 0} (value : List ℕ → Result A ℕ) (text : A → List ℕ) (files : List (List ℕ)) (w : List ℕ) (status : Status)
-    → Texts value text files w status → IsAnswer (kind_of status)
+    → Texts value text files w status → IsAnswer (status_kind status)
 texts_answer {A} value text files w status h =
-    over_each (λ (x : A). WritesText Done (text x)) (value (file_of files 0)) w status (IsAnswer (kind_of status)) (λ x is. status_answers status Done is.1 tt) h
+    over_each (λ (x : A). WritesText Done (text x)) (value (file_of files 0)) w status (IsAnswer (status_kind status)) (λ x is. status_answers status Done is.1 tt) h
 
 -- so is that a value has none
-writes_if_answer : (text : Option (List ℕ)) (w : List ℕ) (status : Status) → WritesIf text w status → IsAnswer (kind_of status)
+writes_if_answer : (text : Option (List ℕ)) (w : List ℕ) (status : Status) → WritesIf text w status → IsAnswer (status_kind status)
 writes_if_answer None w status is = status_answers status (BadRequest Form) is.1 tt
 writes_if_answer (Some text) w status is = status_answers status Done is.1 tt
 
 pub texts_if_answer : {A : Type 0} (value : List ℕ → Result A ℕ) (text : A → Option (List ℕ)) (files : List (List ℕ)) (w : List ℕ) (status : Status)
-    → TextsIf value text files w status → IsAnswer (kind_of status)
+    → TextsIf value text files w status → IsAnswer (status_kind status)
 texts_if_answer {A} value text files w status h =
-    over_each (λ (x : A). WritesIf (text x)) (value (file_of files 0)) w status (IsAnswer (kind_of status)) (λ x is. writes_if_answer (text x) w status is) h
+    over_each (λ (x : A). WritesIf (text x)) (value (file_of files 0)) w status (IsAnswer (status_kind status)) (λ x is. writes_if_answer (text x) w status is) h

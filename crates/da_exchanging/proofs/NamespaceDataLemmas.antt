@@ -20,7 +20,7 @@ use Rattle.axis_roots.specs.declared.answers.NsEntry.{NsEntry}
 use Rattle.square_serve.specs.Answers.{is_wanted, wanted_rows}
 use Rattle.celestia_pb.specs.declared.errors.PbError.{PbError}
 use Rattle.celestia_pb.specs.declared.errors.PbError.TheVariants as message
-use Rattle.celestia_pb.specs.RowData.{has_message}
+use Rattle.celestia_pb.specs.RowData.{found_has_message}
 use Rattle.celestia_pb.specs.NamespaceData.{has_stream, namespace_data_value, rows_of, HaveMessages}
 use Rattle.frame_payloads.specs.kinds.Names.{most_entries, is_long_found, is_long_entry, is_long_answer}
 use Rattle.da_wire.specs.declared.frames.Frame.{Frame}
@@ -41,7 +41,7 @@ use Rattle.da_files.specs.declared.frames.Unread.TheVariants as unread
 use Rattle.da_files.specs.Contents.{file_of}
 use Rattle.da_files.specs.Frames.{header_in, error_of, ReadsSingle, Writes}
 use Rattle.da_files.specs.Forms.{Over}
-use Rattle.da_exchanging.specs.Made.{message_refusal, IsMade}
+use Rattle.da_exchanging.specs.Made.{pb_refusal, IsMadeOutput}
 use Rattle.da_exchanging.specs.NamespaceData.{data_under, bad_data, namespace_data_judged, header_refusal, ImportNamespaceDataOf, entries_of, entries_in, StreamBy, StreamOf, ExportNamespaceDataOf}
 use Rattle.da_exchanging.proofs.MadeLemmas.{made_as}
 
@@ -75,7 +75,7 @@ wanted_none header name = refl
 
 -- ---- entries that were read are short enough to be written
 
-found_short : (found : Found) → has_message found ≡ true → is_long_found found ≡ false
+found_short : (found : Found) → found_has_message found ≡ true → is_long_found found ≡ false
 found_short (Range start shares nodes) has =
     le-ltb greatest_width (length shares) (leb-true (length shares) greatest_width (and_parts (nat_lt 0 (length shares)) (nat_le (length shares) greatest_width) has).1)
 found_short (Absence pos leaf nodes) has = refl
@@ -120,13 +120,13 @@ module _ (name : names.Namespace) (files : List (List ℕ)) where
   Meaning = Judged (namespace_data_judged name files) (ImportNamespaceDataOf name files)
 
   -- HEADER isn't one
-  header_none : (why : Unread) → ReadsSingle (Err why) (header_in (file_of files 1)) → IsMade Meaning (Err (header_refusal why))
+  header_none : (why : Unread) → ReadsSingle (Err why) (header_in (file_of files 1)) → IsMadeOutput Meaning (Err (header_refusal why))
   header_none (unread.BadForm at) h = subst (λ (r : Result Roots ℕ). by_header name files r [] (BadInput 1 at)) (sym h) (refl, refl)
   header_none unread.NoMemory h = tt
 
   pub no_header : (why : Unread) (status : Status) → status ≡ header_refusal why → ReadsSingle (Err why) (header_in (file_of files 1))
-      → IsMade Meaning (Err status)
-  no_header why status is h = subst (λ (s : Status). IsMade Meaning (Err s)) (sym is) (header_none why h)
+      → IsMadeOutput Meaning (Err status)
+  no_header why status is h = subst (λ (s : Status). IsMadeOutput Meaning (Err s)) (sym is) (header_none why h)
 
   module _ (header : Roots) (there : header_in (file_of files 1) ≡ Ok header) where
     -- FILE is this under HEADER
@@ -139,20 +139,20 @@ module _ (name : names.Namespace) (files : List (List ℕ)) where
       read_is read is = data_is read (sym (ap₂ namespace_data_value are here) ∙ is)
 
       pub data_made : (answer : List NsEntry) (shown : Frame) (made : Result (Vec ℕ Global) Status) → namespace_data_value rows bytes ≡ Ok answer
-          → shown ≡ Names name answer → IsMade (Writes shown) made → IsMade Meaning made
+          → shown ≡ Names name answer → IsMadeOutput (Writes shown) made → IsMadeOutput Meaning made
       data_made answer shown made is same h = made_as (Writes shown) Meaning made (ap Writes same ∙ read_is (Ok answer) is) h
 
       -- FILE isn't a stream
       data_none : {T : Type 0} (why : PbError)
           → ((at : ℕ) → IsErrOf {T = T} {E = PbError} (Err why) (message.At at) ↔ (namespace_data_value rows bytes ≡ Err at))
-          → IsMade Meaning (Err (message_refusal why))
+          → IsMadeOutput Meaning (Err (pb_refusal why))
       data_none (message.At at) h = subst (λ (M : Relation). M [] (BadInput 0 at)) (read_is (Err at) ((h at).0 refl)) (refl, refl)
       data_none message.NoMemory h = tt
 
-      pub no_data : {T : Type 0} (why : PbError) (status : Status) → status ≡ message_refusal why
+      pub no_data : {T : Type 0} (why : PbError) (status : Status) → status ≡ pb_refusal why
           → ((at : ℕ) → IsErrOf {T = T} {E = PbError} (Err why) (message.At at) ↔ (namespace_data_value rows bytes ≡ Err at))
-          → IsMade Meaning (Err status)
-      no_data {T} why status is h = subst (λ (s : Status). IsMade Meaning (Err s)) (sym is) (data_none {T = T} why h)
+          → IsMadeOutput Meaning (Err status)
+      no_data {T} why status is h = subst (λ (s : Status). IsMadeOutput Meaning (Err s)) (sym is) (data_none {T = T} why h)
 
 -- ---- frames of entries
 

@@ -17,7 +17,7 @@ use Rattle.celestia_pb.specs.Headers.{dah_value}
 use Rattle.celestia_pb.specs.Extended.{extended_value}
 use Rattle.celestia_pb.specs.ExtendedLaws.{IsExtended, ExtendedIsCommon}
 use Rattle.celestia_pb.specs.HalfRows.{HalfParts, IsHalf, half_row_value, ReadIsHalfRow}
-use Rattle.half_rows.specs.Rows.{width_of, HasHalf, RowParts, IsOrderedRowOf}
+use Rattle.half_rows.specs.Rows.{width_of, HasHalf, WholeRow, IsOrderedRowOf}
 use Rattle.half_rows.specs.Laws.{SamplesAreOfSquare}
 use Rattle.da_wire.specs.declared.frames.Frame.{Frame}
 use Rattle.da_wire.specs.declared.frames.Frame.TheVariants as frames
@@ -32,7 +32,7 @@ use Rattle.da_files.specs.Forms.{Over}
 use Rattle.da_files.proofs.FormLemmas.{single_is}
 use Rattle.da_exchanging.specs.declared.forms.ImportForm.TheVariants as from
 use Rattle.da_exchanging.specs.Header.{WritesRoots}
-use Rattle.da_exchanging.specs.Row.{AreSpelled, row_frame, row_frames, RowBy, RowOf}
+use Rattle.da_exchanging.specs.Row.{AreSpelled, row_sample_frame, row_frames, RowBy, RowOf}
 use Rattle.da_exchanging.specs.Laws.{Imports, HeaderIsOfDah, square_frames, RowIsOfSquare}
 use Rattle.da_exchanging.proofs.LawLemmas.{not_refused, not_asked}
 
@@ -80,11 +80,11 @@ mapped_same f g end first (suc count) le same =
 module _ (law : SamplesAreOfSquare) (row : ℕ) (half : HalfParts) (square grid : List Share) (is : IsHalf half)
     (extends : Extends (width_of half) square grid) (has : HasHalf half (axis_shares (width_of half) grid Row row)) where
   -- the frames of the row that has the half are those of the square
-  same_frames : (parts : RowParts) → row < 2 * width_of half → IsOrderedRowOf half row parts → row_frames parts ≡ square_frames (width_of half) grid row
+  same_frames : (parts : WholeRow) → row < 2 * width_of half → IsOrderedRowOf half row parts → row_frames parts ≡ square_frames (width_of half) grid row
   same_frames parts there of =
       let same : parts ≡ record { k = width_of half; row = row; line = parts.line } = ap₂ (λ (k n : ℕ). record { k = k; row = n; line = parts.line }) of.width of.number_is in
       ap row_frames same
-      ∙ mapped_same (row_frame (record { k = width_of half; row = row; line = parts.line }))
+      ∙ mapped_same (row_sample_frame (record { k = width_of half; row = row; line = parts.line }))
       (λ (col : ℕ). frames.Message (message_at (width_of half) grid (cell_in row col) Row)) (2 * width_of half) 0 (2 * width_of half) (omega arith)
       (λ col within. ap frames.Message (law half square grid parts.line row col is extends there within has of.row_of))
 

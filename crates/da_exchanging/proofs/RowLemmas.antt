@@ -5,7 +5,7 @@ use Rattle.namespace_id.specs.declared.shares.Share.{Share}
 use Rattle.namespace_id.specs.Lists.{ascending}
 use Rattle.namespace_id.proofs.AscentLemmas.{mapped_none, mapped_more}
 use Rattle.celestia_pb.specs.HalfRows.{HalfParts}
-use Rattle.half_rows.specs.Rows.{width_of, IsRowOf, is_ordered_row, RowParts, IsOrderedRowOf}
+use Rattle.half_rows.specs.Rows.{width_of, IsRowOf, is_ordered_row, WholeRow, IsOrderedRowOf}
 use Rattle.da_wire.specs.declared.frames.Frame.{Frame}
 use Rattle.da_wire.specs.Spelling.{spelling, message_kind}
 use Rattle.da_wire.specs.Values.{bad_value}
@@ -21,9 +21,9 @@ use Rattle.da_status.proofs.EndLemmas.{IsAnswer, status_answers}
 use Rattle.da_files.specs.Contents.{file_of}
 use Rattle.da_files.proofs.FormLemmas.{over_each}
 use Rattle.celestia_pb.specs.HalfRows as halves
-use Rattle.da_exchanging.specs.Made.{IsMade}
-use Rattle.da_exchanging.specs.Row.{AreSpelled, WritesAll, row_frame, row_frames, RowBy, RowOf, ImportRowOf, samples_judged, HalfBy, ExportRowOf}
-use Rattle.da_exchanging.specs.LeftHalf.{samples_in, half_of}
+use Rattle.da_exchanging.specs.Made.{IsMadeOutput}
+use Rattle.da_exchanging.specs.Row.{AreSpelled, WritesFrames, row_sample_frame, row_frames, RowBy, RowOf, ImportRowOf, samples_judged, HalfBy, ExportRowOf}
+use Rattle.da_exchanging.specs.LeftHalf.{file_samples, half_of}
 use Rattle.da_exchanging.proofs.MadeLemmas.{made_as}
 
 -- ---- frames, one after another
@@ -46,19 +46,19 @@ spelled_more (first ∷ frames) frame bytes text are is = (
   ap (λ (l : List ℕ). l ++ text) are.4 ∙ append_assoc are.0 are.1 text,
 )
 
-module _ (parts : RowParts) where
+module _ (parts : WholeRow) where
   -- the frames of so many columns
   abbrev pub frames_to : ℕ → List Frame
-  frames_to count = map (row_frame parts) (ascending 0 count)
+  frames_to count = map (row_sample_frame parts) (ascending 0 count)
 
   pub columns_none : (bytes : List ℕ) → bytes ≡ [] → AreSpelled (frames_to 0) bytes
-  columns_none bytes none = subst (λ (fs : List Frame). AreSpelled fs bytes) (mapped_none (row_frame parts) [] refl) (spelled_none bytes none)
+  columns_none bytes none = subst (λ (fs : List Frame). AreSpelled fs bytes) (mapped_none (row_sample_frame parts) [] refl) (spelled_none bytes none)
 
   -- one column more
-  pub columns_more : (count : ℕ) (frame : Frame) (old new : List ℕ) → AreSpelled (frames_to count) old → frame ≡ row_frame parts count
+  pub columns_more : (count : ℕ) (frame : Frame) (old new : List ℕ) → AreSpelled (frames_to count) old → frame ≡ row_sample_frame parts count
       → AppendsSpelling frame old new → AreSpelled (frames_to (count + 1)) new
   columns_more count frame old new are is appends =
-      subst (λ (fs : List Frame). AreSpelled fs new) (mapped_more (row_frame parts) count (frames_to count) frame refl is)
+      subst (λ (fs : List Frame). AreSpelled fs new) (mapped_more (row_sample_frame parts) count (frames_to count) frame refl is)
       (subst (λ (l : List ℕ). AreSpelled (frames_to count ++ frame ∷ []) l) (sym appends.2)
       (spelled_more (frames_to count) frame old appends.0 are appends.1))
 
@@ -75,8 +75,8 @@ module _ (row : ℕ) (half : HalfParts) where
   row_falls there falls = subst (λ (t : Bool). RowBy t row half [] (BadRequest NoHeader)) (sym there) (inr (falls, (refl, refl)))
 
   -- it has one, whose frames were made
-  rows_made : (parts : RowParts) (made : Result (Vec ℕ Global) Status) → nat_lt row (2 * width_of half) ≡ true → IsOrderedRowOf half row parts
-      → IsMade (WritesAll (row_frames parts)) made → IsMade (RowBy true row half) made
+  rows_made : (parts : WholeRow) (made : Result (Vec ℕ Global) Status) → nat_lt row (2 * width_of half) ≡ true → IsOrderedRowOf half row parts
+      → IsMadeOutput (WritesFrames (row_frames parts)) made → IsMadeOutput (RowBy true row half) made
   rows_made parts (Ok text) there is h = inl (parts, is, h)
   rows_made parts (Err status.NoMemory) there is h = tt
   rows_made parts (Err (status.BadInput i at)) there is h = inl (parts, is, h)
@@ -84,8 +84,8 @@ module _ (row : ℕ) (half : HalfParts) where
   rows_made parts (Err status.Refused) there is h = inl (parts, is, h)
   rows_made parts (Err other) there is h = absurd h
 
-  pub row_made : (parts : RowParts) (made : Result (Vec ℕ Global) Status) → nat_lt row (2 * width_of half) ≡ true → IsOrderedRowOf half row parts
-      → IsMade (WritesAll (row_frames parts)) made → IsMade (RowOf row half) made
+  pub row_made : (parts : WholeRow) (made : Result (Vec ℕ Global) Status) → nat_lt row (2 * width_of half) ≡ true → IsOrderedRowOf half row parts
+      → IsMadeOutput (WritesFrames (row_frames parts)) made → IsMadeOutput (RowOf row half) made
   row_made parts made there is h =
       made_as (RowBy true row half) (RowOf row half) made (sym (ap (λ (t : Bool). RowBy t row half) there)) (rows_made parts made there is h)
 
@@ -112,7 +112,7 @@ half_answers None w final h = status_answers final (BadRequest Form) h.1 tt
 half_answers (Some half) w final h = status_answers final Done h.1 tt
 
 pub export_answers : (files : List (List ℕ)) (w : List ℕ) (final : Status) → ExportRowOf files w final → IsAnswer (statuses.kind_of final)
-export_answers files w final h = half_answers (half_of (samples_in (file_of files 0))) w final h
+export_answers files w final h = half_answers (half_of (file_samples (file_of files 0))) w final h
 
 -- ---- what is answered to samples
 
@@ -122,11 +122,11 @@ module _ (files : List (List ℕ)) (bytes : List ℕ) (here : bytes ≡ file_of 
 
   -- by where the bytes stop being a list of samples
   abbrev by_bad : List ℕ → Option ℕ → Relation
-  by_bad l bad = Judged (bad ∷ []) (HalfBy (half_of (samples_in l)))
+  by_bad l bad = Judged (bad ∷ []) (HalfBy (half_of (file_samples l)))
 
   -- they are one
   pub list_made : (bad : Option ℕ) (made : Result (Vec ℕ Global) Status) → bad ≡ bad_value (message_kind ∷ []) bytes → bad ≡ None
-      → IsMade (HalfBy (half_of (samples_in bytes))) made → IsMade Meaning made
+      → IsMadeOutput (HalfBy (half_of (file_samples bytes))) made → IsMadeOutput Meaning made
   list_made bad made is none h =
       made_as (by_bad bytes None) Meaning made
       (ap (by_bad bytes) (sym none ∙ is) ∙ ap (λ (l : List ℕ). by_bad l (bad_value (message_kind ∷ []) l)) here) h

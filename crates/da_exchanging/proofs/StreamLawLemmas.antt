@@ -22,12 +22,12 @@ use Rattle.da_status.specs.declared.status.Status.TheVariants.{Done}
 use Rattle.da_status.specs.Judging.{Judged}
 use Rattle.da_status.specs.Outcome.{Relation}
 use Rattle.da_files.specs.Contents.{file_of}
-use Rattle.da_files.specs.Frames.{header_in, single, error_of, Writes}
+use Rattle.da_files.specs.Frames.{header_in, single_file, error_of, Writes}
 use Rattle.da_files.specs.Forms.{Over}
 use Rattle.da_files.proofs.FormLemmas.{single_is}
 use Rattle.da_files.proofs.FileLemmas.{header_file, single_value}
 use Rattle.da_exchanging.specs.declared.forms.ExportForm.TheVariants as to
-use Rattle.da_exchanging.specs.Answers.{answer_of}
+use Rattle.da_exchanging.specs.Answers.{ns_answer_of}
 use Rattle.da_exchanging.specs.NamespaceData.{data_under, bad_data, entries_of, entries_in, StreamBy, StreamOf}
 use Rattle.da_exchanging.specs.Laws.{Exports, ImportsUnder, NamespaceDataIsExportedBack, NamespaceDataIsImportedBack}
 use Rattle.da_exchanging.proofs.NamespaceDataLemmas.{by_header, by_data, answer_few, stream_is}
@@ -79,7 +79,7 @@ written_stream false answer bytes h = absurd (not_asked Form h.1)
 -- a text that is an answer is read as its entries
 entries_read : (name : names.Namespace) (answer : List NsEntry) (text : List ℕ) → only_of text (names_kind ∷ []) ≡ Ok (frames.Names name answer)
     → entries_in text ≡ Ok answer
-entries_read name answer text read = ap (single entries_of) read
+entries_read name answer text read = ap (single_file entries_of) read
 
 -- ---- what was imported under a header
 
@@ -138,8 +138,8 @@ imported_under name answer roots header bytes text there read spelled =
 
 pub stream_imported : OnlyIsSpelled → NamespaceDataIsRead → NamespaceDataIsImportedBack
 stream_imported only law = λ name answer roots header bytes text fits read there rows told.
-    let is = file_spelled answer_of (λ x. frames.Names x.0 x.1) answer_made (λ x. refl) only (names_kind ∷ []) text (name, answer) fits read in
-    let frame = single_value answer_of (λ x. frames.Names x.0 x.1) answer_made (λ x. refl) (only_of text (names_kind ∷ [])) (name, answer) read in
+    let is = file_spelled ns_answer_of (λ x. frames.Names x.0 x.1) answer_made (λ x. refl) only (names_kind ∷ []) text (name, answer) fits read in
+    let frame = single_value ns_answer_of (λ x. frames.Names x.0 x.1) answer_made (λ x. refl) (only_of text (names_kind ∷ [])) (name, answer) read in
     let written = written_stream (has_stream answer) answer bytes (stream_of text bytes answer (entries_read name answer text frame) told) in
     let parts = and_parts (nat_le (length answer) greatest_width) (list_all has_part answer) written.0 in
     let have = messages_of answer is.0.1 parts.1 in

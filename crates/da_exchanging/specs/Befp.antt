@@ -2,22 +2,22 @@
 use Rattle.std.specs.Prelude.{ℕ, List, [], ◌∷◌, Some, None, Result, if◌then◌else◌}
 use Rattle.std.specs.declared.option.Option.{Option}
 use Rattle.axis_roots.specs.Claims.{ClaimParts}
-use Rattle.celestia_pb.specs.Befp.{has_message, befp_text, befp_value}
+use Rattle.celestia_pb.specs.Befp.{claim_has_message, befp_text, befp_value}
 use Rattle.da_wire.specs.declared.frames.Frame.TheVariants.{Fraud}
 use Rattle.da_wire.specs.Spelling.{fraud_kind}
 use Rattle.da_wire.specs.Reading.{only_of}
 use Rattle.da_wire.specs.Single.{claim_of}
 use Rattle.da_status.specs.Outcome.{Relation}
-use Rattle.da_files.specs.Frames.{single}
+use Rattle.da_files.specs.Frames.{single_file}
 use Rattle.da_exchanging.specs.Made.{Frames, TextsIf}
 
 -- the claim that a file is, or where it stops being a frame of one
 abbrev pub claim_in : List ℕ → Result ClaimParts ℕ
-claim_in bytes = single claim_of (only_of bytes (fraud_kind ∷ []))
+claim_in bytes = single_file claim_of (only_of bytes (fraud_kind ∷ []))
 
 -- the message of a claim against an axis of a square of width k, where it has one; its proofs pass over the parity namespace
 abbrev pub claim_message : ℕ → List ℕ → ℕ → ClaimParts → Option (List ℕ)
-claim_message k hash height claim = if has_message k claim then Some (befp_text 1 k hash height claim) else None
+claim_message k hash height claim = if claim_has_message k claim then Some (befp_text 1 k hash height claim) else None
 
 -- what `import befp` answers to a FILE that is a message of this hash and this height: the frame of its claim
 abbrev pub ImportBefpOf : List ℕ → ℕ → List (List ℕ) → Relation

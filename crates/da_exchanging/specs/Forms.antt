@@ -20,7 +20,7 @@ use Rattle.da_exchanging.specs.declared.forms.ExportForm.TheVariants as to
 use Rattle.da_exchanging.specs.Dah.{ImportDahOf, ExportDahOf}
 use Rattle.da_exchanging.specs.Header.{ImportHeaderOf}
 use Rattle.da_exchanging.specs.Sample.{ImportSampleOf, ExportSampleOf}
-use Rattle.da_exchanging.specs.Answers.{answer_in}
+use Rattle.da_exchanging.specs.Answers.{ns_answer_in}
 use Rattle.da_exchanging.specs.RowData.{ImportRowDataOf, ExportRowDataOf}
 use Rattle.da_exchanging.specs.Befp.{claim_in, ImportBefpOf, ExportBefpOf}
 use Rattle.da_exchanging.specs.NamespaceData.{namespace_data_judged, ImportNamespaceDataOf, entries_in, ExportNamespaceDataOf}
@@ -61,7 +61,7 @@ ImportOf (from.NamespaceId height) files = ImportNamespaceIdOf height files
 abbrev pub export_judged : ExportForm → List (List ℕ) → List (Option ℕ)
 export_judged to.Dah files = single_judged header_in files
 export_judged to.Sample files = single_judged message_in files
-export_judged to.RowData files = single_judged answer_in files
+export_judged to.RowData files = single_judged ns_answer_in files
 export_judged (to.Befp k hash height) files = single_judged claim_in files
 export_judged to.NamespaceData files = single_judged entries_in files
 export_judged to.Row files = samples_judged files

@@ -14,12 +14,12 @@ use Rattle.da_files.specs.Frames.{Writes}
 use Rattle.da_files.specs.Forms.{Over}
 
 -- the axis roots of an extended header, where its data hash is their data root
-abbrev pub roots_of : Extended → Option Roots
-roots_of extended = if bytes_eq (data_root_of extended.roots) extended.data_hash then Some extended.roots else None
+abbrev pub extended_roots : Extended → Option Roots
+extended_roots extended = if bytes_eq (data_root_of extended.roots) extended.data_hash then Some extended.roots else None
 
 -- the frame of these axis roots; where the data hash is another, nothing
 abbrev pub WritesRoots : Extended → Relation
-WritesRoots extended w status = MatchOption (roots_of extended) (Refuses Refused w status) (λ roots. Writes (Header roots) w status)
+WritesRoots extended w status = MatchOption (extended_roots extended) (Refuses Refused w status) (λ roots. Writes (Header roots) w status)
 
 -- what `import header` answers to a FILE that is an extended header
 abbrev pub ImportHeaderOf : List (List ℕ) → Relation

@@ -10,7 +10,7 @@ use Rattle.da_wire.specs.declared.frames.Frame.TheVariants.{Sample, Request}
 use Rattle.da_wire.specs.Spelling.{sample_kind, request_kind}
 use Rattle.da_wire.specs.Reading.{only_of}
 use Rattle.da_status.specs.Outcome.{Relation}
-use Rattle.da_files.specs.Frames.{single}
+use Rattle.da_files.specs.Frames.{single_file}
 use Rattle.da_files.specs.Requests.{namespace_of}
 use Rattle.da_exchanging.specs.Made.{Frames, Texts}
 
@@ -21,11 +21,11 @@ cell_of frame = None
 
 -- the cell whose sample the one frame asks for that a file is, or where it stops being a frame of such a request
 abbrev pub asked_cell_in : List ℕ → Result Cell ℕ
-asked_cell_in bytes = single cell_of (only_of bytes (sample_kind ∷ []))
+asked_cell_in bytes = single_file cell_of (only_of bytes (sample_kind ∷ []))
 
 -- the namespace that the one frame asks for that a file is
 abbrev pub asked_name_in : List ℕ → Result names.Namespace ℕ
-asked_name_in bytes = single namespace_of (only_of bytes (request_kind ∷ []))
+asked_name_in bytes = single_file namespace_of (only_of bytes (request_kind ∷ []))
 
 -- the request for the sample of a cell along its row
 abbrev pub row_request : Cell → Frame

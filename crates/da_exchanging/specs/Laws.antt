@@ -20,7 +20,7 @@ use Rattle.axis_roots.specs.declared.message.messages.Message.{Message}
 use Rattle.square_serve.specs.Answers.{wanted_rows}
 use Rattle.celestia_pb.specs.declared.extended.Extended.{Extended}
 use Rattle.celestia_pb.specs.Befp.{befp_text}
-use Rattle.celestia_pb.specs.BefpLaws.{HasMessage}
+use Rattle.celestia_pb.specs.BefpLaws.{ClaimHasMessage}
 use Rattle.celestia_pb.specs.ExtendedLaws.{IsExtended}
 use Rattle.celestia_pb.specs.HalfRows.{HalfParts, half_row_value}
 use Rattle.celestia_pb.specs.NamespaceData.{rows_of}
@@ -36,7 +36,7 @@ use Rattle.da_exchanging.specs.declared.forms.ImportForm.{ImportForm}
 use Rattle.da_exchanging.specs.declared.forms.ImportForm.TheVariants as from
 use Rattle.da_exchanging.specs.declared.forms.ExportForm.{ExportForm}
 use Rattle.da_exchanging.specs.declared.forms.ExportForm.TheVariants as to
-use Rattle.da_exchanging.specs.Answers.{answer_in}
+use Rattle.da_exchanging.specs.Answers.{ns_answer_in}
 use Rattle.da_exchanging.specs.Ids.{row_request}
 use Rattle.da_exchanging.specs.Row.{AreSpelled}
 use Rattle.da_exchanging.specs.Forms.{import_judged, ImportOf, export_judged, ExportOf}
@@ -64,13 +64,13 @@ SampleIsImportedBack = (bytes text : List ℕ) (m : Message) → AreBytes text �
 
 -- what is exported of an answer is imported as the answer for its namespace, of the row of its entry
 abbrev pub RowDataIsImportedBack : Type 0
-RowDataIsImportedBack = (bytes text : List ℕ) (name : Namespace) (entry : NsEntry) → AreBytes text → answer_in text ≡ Ok (name, entry ∷ [])
+RowDataIsImportedBack = (bytes text : List ℕ) (name : Namespace) (entry : NsEntry) → AreBytes text → ns_answer_in text ≡ Ok (name, entry ∷ [])
     → Exports to.RowData text bytes → Imports (from.RowData entry.row name) bytes text
 
 -- the message of a claim whose proofs pass over the parity namespace is exported of the frame that it is imported as
 abbrev pub BefpIsExportedBack : Type 0
 BefpIsExportedBack = (k : ℕ) (hash : List ℕ) (height : ℕ) (claim : ClaimParts) (text : List ℕ) → length hash ≡ hash_size → height < 2 ^ 64
-    → HasMessage k claim → Imports (from.Befp hash height) (befp_text 1 k hash height claim) text
+    → ClaimHasMessage k claim → Imports (from.Befp hash height) (befp_text 1 k hash height claim) text
     → Exports (to.Befp k hash height) text (befp_text 1 k hash height claim)
 
 -- what is exported of a claim is imported as the claim
@@ -99,7 +99,7 @@ NamespaceDataIsExportedBack = (name : Namespace) (header bytes text : List ℕ) 
 -- what is exported of an answer with an entry for just the rows of a header that may hold the namespace is imported under it as the answer
 abbrev pub NamespaceDataIsImportedBack : Type 0
 NamespaceDataIsImportedBack = (name : Namespace) (answer : List NsEntry) (roots : Roots) (header bytes text : List ℕ) → AreBytes text
-    → answer_in text ≡ Ok (name, answer) → header_in header ≡ Ok roots → rows_of answer ≡ wanted_rows roots name
+    → ns_answer_in text ≡ Ok (name, answer) → header_in header ≡ Ok roots → rows_of answer ≡ wanted_rows roots name
     → Exports to.NamespaceData text bytes → ImportsUnder name header bytes text
 
 -- ---- one way

@@ -15,8 +15,8 @@ use Rattle.da_wire.specs.Single.{message_of}
 use Rattle.da_wire.specs.Values.{values_of}
 
 -- the samples of a file of them
-abbrev pub samples_in : List ℕ → List Message
-samples_in bytes = filter_map message_of (values_of (message_kind ∷ []) bytes)
+abbrev pub file_samples : List ℕ → List Message
+file_samples bytes = filter_map message_of (values_of (message_kind ∷ []) bytes)
 
 -- whether a sample is that of this cell along its row
 abbrev pub is_at : ℕ → ℕ → Message → Bool
@@ -34,17 +34,17 @@ row_named [] = 0
 row_named (m ∷ messages) = m.cell.row
 
 -- a list, if there is one
-abbrev pub items_of : Option (Vec Share Global) → Option (List Share)
-items_of None = None
-items_of (Some v) = Some v.items
+abbrev pub list_there : Option (Vec Share Global) → Option (List Share)
+list_there None = None
+list_there (Some v) = Some v.items
 
 -- the left half of these shares of a row, where they are 2k for a width k, and the row is below 2k
-abbrev pub left_half : ℕ → List Share → Option HalfParts
-left_half row shares =
+abbrev pub left_half_of : ℕ → List Share → Option HalfParts
+left_half_of row shares =
     if nat_lt row (length shares) && (is_width (length shares / 2) && (length shares == 2 * (length shares / 2)))
     then Some (record { side = Left; shares = take (length shares / 2) shares })
     else None
 
 -- the left half of the row of which samples are all, from column 0
 abbrev pub half_of : List Message → Option HalfParts
-half_of messages = option_and_then (left_half (row_named messages)) (shares_along (row_named messages) 0 messages)
+half_of messages = option_and_then (left_half_of (row_named messages)) (shares_along (row_named messages) 0 messages)

@@ -16,9 +16,9 @@ use Rattle.da_files.specs.Frames.{Writes, WritesText}
 use Rattle.da_files.specs.Forms.{Over}
 
 -- the status of why FILE isn't read as a message
-abbrev pub message_refusal : PbError → Status
-message_refusal (message.At at) = BadInput 0 at
-message_refusal message.NoMemory = NoMemory
+abbrev pub pb_refusal : PbError → Status
+pb_refusal (message.At at) = BadInput 0 at
+pb_refusal message.NoMemory = NoMemory
 
 -- the status of why FILE isn't read as one frame
 abbrev pub frame_refusal : Unread → Status
@@ -26,13 +26,13 @@ frame_refusal (unread.BadForm at) = BadInput 0 at
 frame_refusal unread.NoMemory = NoMemory
 
 -- what was made belongs to a relation: a whole output, with `Done`; or nothing, with the status that refuses; or memory ran out
-abbrev pub IsMade : Relation → Result (Vec ℕ Global) Status → Type 0
-IsMade M (Ok text) = M text.items Done
-IsMade M (Err (BadInput i at)) = M [] (BadInput i at)
-IsMade M (Err (BadRequest why)) = M [] (BadRequest why)
-IsMade M (Err Refused) = M [] Refused
-IsMade M (Err NoMemory) = ⊤
-IsMade M (Err status) = ⊥
+abbrev pub IsMadeOutput : Relation → Result (Vec ℕ Global) Status → Type 0
+IsMadeOutput M (Ok text) = M text.items Done
+IsMadeOutput M (Err (BadInput i at)) = M [] (BadInput i at)
+IsMadeOutput M (Err (BadRequest why)) = M [] (BadRequest why)
+IsMadeOutput M (Err Refused) = M [] Refused
+IsMadeOutput M (Err NoMemory) = ⊤
+IsMadeOutput M (Err status) = ⊥
 
 -- what is answered to a value: its bytes in a form, or that it has none
 abbrev pub WritesIf : Option (List ℕ) → Relation

@@ -18,7 +18,7 @@ use Rattle.da_status.specs.Outcome.{Relation, Refuses}
 use Rattle.da_files.specs.declared.frames.Unread.{Unread}
 use Rattle.da_files.specs.declared.frames.Unread.TheVariants as unread
 use Rattle.da_files.specs.Contents.{file_of}
-use Rattle.da_files.specs.Frames.{header_in, single, error_of, Writes, WritesText}
+use Rattle.da_files.specs.Frames.{header_in, single_file, error_of, Writes, WritesText}
 use Rattle.da_files.specs.Forms.{Over}
 
 -- the entries that bytes are of a namespace under a header: of the rows that may hold it
@@ -52,7 +52,7 @@ entries_of frame = None
 
 -- those of the one frame that a file is, or where it stops being a frame of such
 abbrev pub entries_in : List ℕ → Result (List NsEntry) ℕ
-entries_in bytes = single entries_of (only_of bytes (names_kind ∷ []))
+entries_in bytes = single_file entries_of (only_of bytes (names_kind ∷ []))
 
 -- the stream of entries that have one, or that they have none
 abbrev pub StreamBy : Bool → List NsEntry → Relation

@@ -4,7 +4,7 @@ use Rattle.std.specs.declared.option.Option.{Option}
 use Rattle.namespace_id.specs.declared.shares.Share.{Share}
 use Rattle.namespace_id.specs.Lists.{ascending}
 use Rattle.celestia_pb.specs.HalfRows.{HalfParts, half_row_text, half_row_value}
-use Rattle.half_rows.specs.Rows.{width_of, IsRowOf, is_ordered_row, RowParts, sample_in, IsOrderedRowOf}
+use Rattle.half_rows.specs.Rows.{width_of, IsRowOf, is_ordered_row, WholeRow, sample_in, IsOrderedRowOf}
 use Rattle.da_wire.specs.declared.frames.Frame.{Frame}
 use Rattle.da_wire.specs.declared.frames.Frame.TheVariants.{Message}
 use Rattle.da_wire.specs.Spelling.{spelling, message_kind}
@@ -15,7 +15,7 @@ use Rattle.da_status.specs.Outcome.{Relation, Refuses}
 use Rattle.da_files.specs.Contents.{file_of}
 use Rattle.da_files.specs.Frames.{WritesText}
 use Rattle.da_files.specs.Forms.{Over}
-use Rattle.da_exchanging.specs.LeftHalf.{samples_in, half_of}
+use Rattle.da_exchanging.specs.LeftHalf.{file_samples, half_of}
 
 -- bytes are the spellings of frames, one after another
 unfoldable pub AreSpelled : List Frame → List ℕ → Type 0
@@ -24,20 +24,20 @@ AreSpelled (frame ∷ frames) bytes =
     (text : List ℕ) × (rest : List ℕ) × (spelling frame ≡ Some text) × AreSpelled frames rest × (bytes ≡ text ++ rest)
 
 -- the output is the spellings of frames
-abbrev pub WritesAll : List Frame → Relation
-WritesAll frames w status = AreSpelled frames w × (status ≡ Done)
+abbrev pub WritesFrames : List Frame → Relation
+WritesFrames frames w status = AreSpelled frames w × (status ≡ Done)
 
 -- the frame of the sample of a row in a column
-abbrev pub row_frame : RowParts → ℕ → Frame
-row_frame parts col = Message (sample_in parts col)
+abbrev pub row_sample_frame : WholeRow → ℕ → Frame
+row_sample_frame parts col = Message (sample_in parts col)
 
 -- those of all columns, from column 0
-abbrev pub row_frames : RowParts → List Frame
-row_frames parts = map (row_frame parts) (ascending 0 (2 * parts.k))
+abbrev pub row_frames : WholeRow → List Frame
+row_frames parts = map (row_sample_frame parts) (ascending 0 (2 * parts.k))
 
 -- the frames of the row of this number that has the half
 abbrev pub WritesRow : ℕ → HalfParts → Relation
-WritesRow row half w status = (parts : RowParts) × IsOrderedRowOf half row parts × WritesAll (row_frames parts) w status
+WritesRow row half w status = (parts : WholeRow) × IsOrderedRowOf half row parts × WritesFrames (row_frames parts) w status
 
 -- the leaf namespaces of the row fall, so that no square has a header with it
 abbrev pub RowFalls : ℕ → HalfParts → Relation
@@ -68,4 +68,4 @@ HalfBy (Some half) = WritesText Done (half_row_text half)
 
 -- what `export row` answers to a FILE that is a list of samples: the message of the left half of the row of which they are all
 abbrev pub ExportRowOf : List (List ℕ) → Relation
-ExportRowOf files = HalfBy (half_of (samples_in (file_of files 0)))
+ExportRowOf files = HalfBy (half_of (file_samples (file_of files 0)))

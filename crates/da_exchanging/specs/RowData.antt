@@ -4,12 +4,12 @@ use Rattle.std.specs.Prelude.{ℕ, List, [], ◌∷◌, Some, None, if◌then◌
 use Rattle.std.specs.declared.option.Option.{Option}
 use Rattle.namespace_id.specs.declared.namespaces.Namespace.{Namespace}
 use Rattle.axis_roots.specs.declared.answers.NsEntry.{NsEntry}
-use Rattle.celestia_pb.specs.RowData.{has_message, found_text, row_value}
+use Rattle.celestia_pb.specs.RowData.{found_has_message, found_message, row_value}
 use Rattle.da_wire.specs.declared.frames.Frame.{Frame}
 use Rattle.da_wire.specs.declared.frames.Frame.TheVariants.{Names}
 use Rattle.da_status.specs.Outcome.{Relation}
 use Rattle.da_exchanging.specs.Made.{Frames, TextsIf}
-use Rattle.da_exchanging.specs.Answers.{answer_in}
+use Rattle.da_exchanging.specs.Answers.{ns_answer_in}
 
 -- the frame of the answer for a namespace that has this one entry
 abbrev pub row_frame : Namespace → NsEntry → Frame
@@ -17,7 +17,7 @@ row_frame name entry = Names name (entry ∷ [])
 
 -- the message of an entry, where it has one
 abbrev pub entry_message : NsEntry → Option (List ℕ)
-entry_message entry = if has_message entry.found then Some (found_text entry.found) else None
+entry_message entry = if found_has_message entry.found then Some (found_message entry.found) else None
 
 -- the message of the one entry of an answer; none has an answer of no entries or of several
 abbrev pub answer_message : List NsEntry → Option (List ℕ)
@@ -31,4 +31,4 @@ ImportRowDataOf row name = Frames (row_value row) (row_frame name)
 
 -- what `export row-data` answers to a FILE that is an answer: the message of its one entry, where it has one
 abbrev pub ExportRowDataOf : List (List ℕ) → Relation
-ExportRowDataOf = TextsIf answer_in (λ read. answer_message read.1)
+ExportRowDataOf = TextsIf ns_answer_in (λ read. answer_message read.1)

@@ -12,7 +12,7 @@ use Rattle.da_status.specs.declared.status.Status.TheVariants.{Done, BadRequest}
 use Rattle.da_status.specs.Outcome.{Relation, Refuses}
 use Rattle.da_files.specs.Contents.{file_of}
 use Rattle.da_files.specs.Forms.{Over}
-use Rattle.da_files.specs.Frames.{single, WritesText}
+use Rattle.da_files.specs.Frames.{single_file, WritesText}
 use Rattle.da_exchanging.specs.Made.{Frames}
 
 -- the root proof that a frame is
@@ -22,7 +22,7 @@ rooted_of frame = None
 
 -- the root proof that a file is, or where it stops being a frame of one
 abbrev pub rooted_in : List ℕ → Result RootedParts ℕ
-rooted_in bytes = single rooted_of (only_of bytes (rooted_kind ∷ []))
+rooted_in bytes = single_file rooted_of (only_of bytes (rooted_kind ∷ []))
 
 -- the message of a root proof, where it has one
 abbrev pub GivesMessage : Bool → RootedParts → Relation

@@ -2,7 +2,7 @@
 
 ghost use Rattle.std.specs.Prelude.{◌≡◌};
 ghost use Rattle.da_files.specs.Frames.{ReadsSingle};
-ghost use Rattle.da_exchanging.specs.Answers.{answer_of, answer_in};
+ghost use Rattle.da_exchanging.specs.Answers.{ns_answer_of, ns_answer_in};
 
 use axis_roots::NsAnswer;
 use da_files::{Unread, reason};
@@ -12,7 +12,7 @@ use std::alloc::Global;
 
 /// The answer for a namespace that a frame is.
 fn answer_of(frame: Frame) -> Option<(Namespace, NsAnswer)>
-    ensures { result ≡ answer_of frame }
+    ensures { result ≡ ns_answer_of frame }
 {
     match frame {
         Frame::Names(name, answer) => Some((name, answer)),
@@ -22,7 +22,7 @@ fn answer_of(frame: Frame) -> Option<(Namespace, NsAnswer)>
 
 /// The answer for a namespace that a file is.
 pub(crate) fn answer_in(alloc: Global, bytes: &[u8]) -> Result<(Namespace, NsAnswer), Unread>
-    ensures { ReadsSingle result (answer_in bytes.now) }
+    ensures { ReadsSingle result (ns_answer_in bytes.now) }
 {
     wire_laws();
     bytes_law(bytes);

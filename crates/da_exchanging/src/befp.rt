@@ -5,7 +5,7 @@ ghost use Rattle.da_status.specs.Judging.{Judged};
 ghost use Rattle.da_files.specs.Contents.{contents_of};
 ghost use Rattle.da_files.specs.Frames.{ReadsSingle};
 ghost use Rattle.da_files.specs.Forms.{single_judged};
-ghost use Rattle.da_exchanging.specs.Made.{WritesIf, IsMade};
+ghost use Rattle.da_exchanging.specs.Made.{WritesIf, IsMadeOutput};
 ghost use Rattle.da_exchanging.specs.Befp.{claim_in, claim_message, ImportBefpOf, ExportBefpOf};
 
 use crate::made::{FILE, frame_refusal, frame_text, message_refusal};
@@ -24,7 +24,7 @@ pub(crate) fn import(
     hash: &[u8; 32],
     height: u64,
 ) -> Result<Vec<u8>, Status>
-    ensures { IsMade (Judged (single_judged (befp_value hash.now height) (contents_of files.now))
+    ensures { IsMadeOutput (Judged (single_judged (befp_value hash.now height) (contents_of files.now))
         (ImportBefpOf hash.now height (contents_of files.now))) result }
 {
     befp_laws();
@@ -54,7 +54,7 @@ fn message(
     height: u64,
     claim: &FraudClaim,
 ) -> Result<Vec<u8>, Status>
-    ensures { IsMade (WritesIf (claim_message k hash.now height claim.now)) result }
+    ensures { IsMadeOutput (WritesIf (claim_message k hash.now height claim.now)) result }
 {
     let Some(size) = befp_size(k, height, claim) else {
         return Err(Status::BadRequest(Asked::Form));
@@ -74,7 +74,7 @@ pub(crate) fn export(
     hash: &[u8; 32],
     height: u64,
 ) -> Result<Vec<u8>, Status>
-    ensures { IsMade (Judged (single_judged claim_in (contents_of files.now))
+    ensures { IsMadeOutput (Judged (single_judged claim_in (contents_of files.now))
         (ExportBefpOf k hash.now height (contents_of files.now))) result }
 {
     match claim_in(alloc, file(files, FILE)) {

@@ -9,7 +9,7 @@ ghost use Rattle.da_status.specs.declared.status.Status.TheVariants as StatusOf;
 ghost use Rattle.da_files.specs.Contents.{contents_of};
 ghost use Rattle.da_files.specs.Frames.{header_in, WritesText};
 ghost use Rattle.da_files.specs.Forms.{single_judged};
-ghost use Rattle.da_exchanging.specs.Made.{IsMade};
+ghost use Rattle.da_exchanging.specs.Made.{IsMadeOutput};
 ghost use Rattle.da_exchanging.specs.Dah.{ImportDahOf, ExportDahOf};
 
 use crate::made::{FILE, frame_refusal, frame_text, message_refusal};
@@ -35,7 +35,7 @@ pub(crate) fn header_frame(header: Header) -> Frame
 
 /// The frame of the header that the message in FILE is.
 pub(crate) fn import(alloc: Global, files: &[Vec<u8>]) -> Result<Vec<u8>, Status>
-    ensures { IsMade (Judged (single_judged dah_value (contents_of files.now))
+    ensures { IsMadeOutput (Judged (single_judged dah_value (contents_of files.now))
         (ImportDahOf (contents_of files.now))) result }
 {
     match read_dah(alloc, file(files, FILE)) {
@@ -46,7 +46,7 @@ pub(crate) fn import(alloc: Global, files: &[Vec<u8>]) -> Result<Vec<u8>, Status
 
 /// The message of a header.
 fn message(alloc: Global, header: &Header) -> Result<Vec<u8>, Status>
-    ensures { IsMade (WritesText StatusOf.Done (dah_text header.now)) result }
+    ensures { IsMadeOutput (WritesText StatusOf.Done (dah_text header.now)) result }
 {
     let Ok(mut text) = Vec::with_capacity(alloc, dah_size(header)) else {
         return Err(Status::NoMemory);
@@ -57,7 +57,7 @@ fn message(alloc: Global, header: &Header) -> Result<Vec<u8>, Status>
 
 /// The message of the header in FILE.
 pub(crate) fn export(alloc: Global, files: &[Vec<u8>]) -> Result<Vec<u8>, Status>
-    ensures { IsMade (Judged (single_judged header_in (contents_of files.now))
+    ensures { IsMadeOutput (Judged (single_judged header_in (contents_of files.now))
         (ExportDahOf (contents_of files.now))) result }
 {
     match header_in(alloc, file(files, FILE)) {

@@ -4,7 +4,7 @@ ghost use Rattle.std.specs.Prelude.{◌≡◌};
 ghost use Rattle.da_status.specs.Judging.{Judged};
 ghost use Rattle.da_status.specs.Outcome.{EndsAtOnce};
 ghost use Rattle.da_files.specs.Contents.{contents_of};
-ghost use Rattle.da_exchanging.specs.Made.{IsMade};
+ghost use Rattle.da_exchanging.specs.Made.{IsMadeOutput};
 ghost use Rattle.da_exchanging.specs.Forms.{import_judged, ImportOf, export_judged, ExportOf};
 
 use crate::{befp, dah, header, ids, namespace_data, ods, row, row_data, sample, share_proof};
@@ -71,7 +71,7 @@ pub enum ExportForm {
 
 /// The output of `import`.
 fn imported(alloc: Global, form: ImportForm, files: &[Vec<u8>]) -> Result<Vec<u8>, Status>
-    ensures { IsMade (Judged (import_judged form (contents_of files.now))
+    ensures { IsMadeOutput (Judged (import_judged form (contents_of files.now))
         (ImportOf form (contents_of files.now))) result }
 {
     match form {
@@ -91,7 +91,7 @@ fn imported(alloc: Global, form: ImportForm, files: &[Vec<u8>]) -> Result<Vec<u8
 
 /// The output of `export`.
 fn exported(alloc: Global, form: ExportForm, files: &[Vec<u8>]) -> Result<Vec<u8>, Status>
-    ensures { IsMade (Judged (export_judged form (contents_of files.now))
+    ensures { IsMadeOutput (Judged (export_judged form (contents_of files.now))
         (ExportOf form (contents_of files.now))) result }
 {
     match form {

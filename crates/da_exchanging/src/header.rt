@@ -5,8 +5,8 @@ ghost use Rattle.celestia_pb.specs.Extended.{extended_value};
 ghost use Rattle.da_status.specs.Judging.{Judged};
 ghost use Rattle.da_files.specs.Contents.{contents_of};
 ghost use Rattle.da_files.specs.Forms.{single_judged};
-ghost use Rattle.da_exchanging.specs.Made.{IsMade};
-ghost use Rattle.da_exchanging.specs.Header.{roots_of, WritesRoots, ImportHeaderOf};
+ghost use Rattle.da_exchanging.specs.Made.{IsMadeOutput};
+ghost use Rattle.da_exchanging.specs.Header.{extended_roots, WritesRoots, ImportHeaderOf};
 
 use crate::dah::header_frame;
 use crate::made::{FILE, frame_text, message_refusal};
@@ -18,7 +18,7 @@ use std::alloc::Global;
 
 /// The axis roots of an extended header, where its data hash is their data root.
 fn roots_of(extended: Extended) -> Option<Header>
-    ensures { result ≡ roots_of extended }
+    ensures { result ≡ extended_roots extended }
 {
     let Extended { data_hash, roots } = extended;
     if data_root(&roots) == data_hash {
@@ -30,7 +30,7 @@ fn roots_of(extended: Extended) -> Option<Header>
 
 /// The frame of the axis roots of an extended header. Where its data hash isn't their data root it is refused.
 fn roots_text(alloc: Global, extended: Extended) -> Result<Vec<u8>, Status>
-    ensures { IsMade (WritesRoots extended) result }
+    ensures { IsMadeOutput (WritesRoots extended) result }
 {
     match roots_of(extended) {
         Some(roots) => frame_text(alloc, header_frame(roots)),
@@ -40,7 +40,7 @@ fn roots_text(alloc: Global, extended: Extended) -> Result<Vec<u8>, Status>
 
 /// The frame of the axis roots of the extended header that the message in FILE is.
 pub(crate) fn import(alloc: Global, files: &[Vec<u8>]) -> Result<Vec<u8>, Status>
-    ensures { IsMade (Judged (single_judged extended_value (contents_of files.now))
+    ensures { IsMadeOutput (Judged (single_judged extended_value (contents_of files.now))
         (ImportHeaderOf (contents_of files.now))) result }
 {
     match read_extended(alloc, file(files, FILE)) {

@@ -11,7 +11,7 @@ ghost use Rattle.da_files.specs.Contents.{contents_of};
 ghost use Rattle.da_files.specs.Frames.{ReadsSingle, WritesText};
 ghost use Rattle.da_files.specs.Forms.{single_judged};
 ghost use Rattle.da_files.specs.Requests.{namespace_of};
-ghost use Rattle.da_exchanging.specs.Made.{IsMade};
+ghost use Rattle.da_exchanging.specs.Made.{IsMadeOutput};
 ghost use Rattle.da_exchanging.specs.Ids.{cell_of, asked_cell_in, asked_name_in, row_request, ImportSampleIdOf, ExportSampleIdOf, ImportNamespaceIdOf, ExportNamespaceIdOf};
 
 use crate::made::{FILE, frame_refusal, frame_text, message_refusal};
@@ -100,7 +100,7 @@ pub(crate) fn import_sample(
     files: &[Vec<u8>],
     height: u64,
 ) -> Result<Vec<u8>, Status>
-    ensures { IsMade (Judged (single_judged (sample_id_value height) (contents_of files.now))
+    ensures { IsMadeOutput (Judged (single_judged (sample_id_value height) (contents_of files.now))
         (ImportSampleIdOf height (contents_of files.now))) result }
 {
     match read_sample_id(height, file(files, FILE)) {
@@ -111,7 +111,7 @@ pub(crate) fn import_sample(
 
 /// The SampleID of a cell.
 fn sample_id(alloc: Global, height: u64, cell: Cell) -> Result<Vec<u8>, Status>
-    ensures { IsMade (WritesText StatusOf.Done (sample_id_text height cell)) result }
+    ensures { IsMadeOutput (WritesText StatusOf.Done (sample_id_text height cell)) result }
 {
     let Ok(mut text) = Vec::with_capacity(alloc, SAMPLE_ID_SIZE) else {
         return Err(Status::NoMemory);
@@ -126,7 +126,7 @@ pub(crate) fn export_sample(
     files: &[Vec<u8>],
     height: u64,
 ) -> Result<Vec<u8>, Status>
-    ensures { IsMade (Judged (single_judged asked_cell_in (contents_of files.now))
+    ensures { IsMadeOutput (Judged (single_judged asked_cell_in (contents_of files.now))
         (ExportSampleIdOf height (contents_of files.now))) result }
 {
     match asked_cell_in(alloc, file(files, FILE)) {
@@ -141,7 +141,7 @@ pub(crate) fn import_namespace(
     files: &[Vec<u8>],
     height: u64,
 ) -> Result<Vec<u8>, Status>
-    ensures { IsMade (Judged (single_judged (namespace_id_value height) (contents_of files.now))
+    ensures { IsMadeOutput (Judged (single_judged (namespace_id_value height) (contents_of files.now))
         (ImportNamespaceIdOf height (contents_of files.now))) result }
 {
     match read_namespace_id(height, file(files, FILE)) {
@@ -152,7 +152,7 @@ pub(crate) fn import_namespace(
 
 /// The NamespaceDataID of a namespace.
 fn namespace_id(alloc: Global, height: u64, name: &Namespace) -> Result<Vec<u8>, Status>
-    ensures { IsMade (WritesText StatusOf.Done (namespace_id_text height name.now)) result }
+    ensures { IsMadeOutput (WritesText StatusOf.Done (namespace_id_text height name.now)) result }
 {
     let Ok(mut text) = Vec::with_capacity(alloc, NAMESPACE_ID_SIZE) else {
         return Err(Status::NoMemory);
@@ -167,7 +167,7 @@ pub(crate) fn export_namespace(
     files: &[Vec<u8>],
     height: u64,
 ) -> Result<Vec<u8>, Status>
-    ensures { IsMade (Judged (single_judged asked_name_in (contents_of files.now))
+    ensures { IsMadeOutput (Judged (single_judged asked_name_in (contents_of files.now))
         (ExportNamespaceIdOf height (contents_of files.now))) result }
 {
     match asked_name_in(alloc, file(files, FILE)) {

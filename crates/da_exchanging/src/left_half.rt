@@ -2,7 +2,7 @@
 
 ghost use Rattle.std.specs.Prelude.{◌≡◌, ◌<◌, ◌∷◌, [], length, IfOk, IfSome, MatchOption, vec_len};
 ghost use Rattle.da_wire.specs.Single.{message_of};
-ghost use Rattle.da_exchanging.specs.LeftHalf.{samples_in, is_at, shares_along, items_of, row_named, left_half, half_of};
+ghost use Rattle.da_exchanging.specs.LeftHalf.{file_samples, is_at, shares_along, list_there, row_named, left_half_of, half_of};
 
 use axis_roots::{Message, is_along};
 use celestia_pb::{HalfRow, Side};
@@ -26,8 +26,8 @@ fn message_of(frame: Frame) -> Option<Message>
 /// The sample at the front of a list of samples, and the bytes after it.
 #[tactic(auto, using(crate::proofs::LeftHalfLemmas::message_there, crate::proofs::LeftHalfLemmas::first_sample))]
 fn next_sample(alloc: Global, bytes: &[u8]) -> Result<Option<(Message, &[u8])>, NoMemory>
-    ensures samples { IfOk result (λ found. MatchOption found (samples_in bytes.now ≡ [])
-        (λ x. samples_in bytes.now ≡ x.0 ∷ samples_in x.1.now)) }
+    ensures samples { IfOk result (λ found. MatchOption found (file_samples bytes.now ≡ [])
+        (λ x. file_samples bytes.now ≡ x.0 ∷ file_samples x.1.now)) }
     ensures shorter { IfOk result (λ found. IfSome found (λ x. length x.1.now < length bytes.now)) }
 {
     let Ok(found) = next_value(alloc, bytes, b"M") else {
@@ -52,7 +52,7 @@ fn is_at(row: u16, col: u64, message: &Message) -> bool
 
 /// The row that the first sample is of, 0 where there is none.
 fn row_named(alloc: Global, bytes: &[u8]) -> Result<u16, NoMemory>
-    ensures { IfOk result (λ row. row ≡ row_named (samples_in bytes.now)) }
+    ensures { IfOk result (λ row. row ≡ row_named (file_samples bytes.now)) }
 {
     match next_sample(alloc, bytes)? {
         Some((message, _after)) => Ok(message.cell.row),
@@ -62,7 +62,7 @@ fn row_named(alloc: Global, bytes: &[u8]) -> Result<u16, NoMemory>
 
 /// The shares of samples of a row, from column 0; none where one isn't that of the next column.
 fn shares_along(alloc: Global, row: u16, bytes: &[u8]) -> Result<Option<Vec<Share>>, NoMemory>
-    ensures { IfOk result (λ found. items_of found ≡ shares_along row 0 (samples_in bytes.now)) }
+    ensures { IfOk result (λ found. list_there found ≡ shares_along row 0 (file_samples bytes.now)) }
 {
     let mut shares = Vec::new(alloc);
     let mut rest = bytes;
@@ -84,7 +84,7 @@ fn shares_along(alloc: Global, row: u16, bytes: &[u8]) -> Result<Option<Vec<Shar
 
 /// The left half of these shares of a row, where they are 2k for a width k, and the row is below 2k.
 fn left_half(row: u16, mut shares: Vec<Share>) -> Option<HalfRow>
-    ensures { result ≡ left_half row shares.items }
+    ensures { result ≡ left_half_of row shares.items }
 {
     let k = shares.len() / 2;
     if row as usize >= shares.len()
@@ -103,7 +103,7 @@ fn left_half(row: u16, mut shares: Vec<Share>) -> Option<HalfRow>
 
 /// The left half of the row of which the samples of a file are all, from column 0.
 pub(crate) fn half_in(alloc: Global, bytes: &[u8]) -> Result<Option<HalfRow>, NoMemory>
-    ensures { IfOk result (λ half. half ≡ half_of (samples_in bytes.now)) }
+    ensures { IfOk result (λ half. half ≡ half_of (file_samples bytes.now)) }
 {
     let row = row_named(alloc, bytes)?;
     let Some(shares) = shares_along(alloc, row, bytes)? else {

@@ -3,7 +3,7 @@
 ghost use Rattle.std.specs.Prelude.{◌≡◌, IsSome};
 ghost use Rattle.da_wire.specs.Spelling.{spelling};
 ghost use Rattle.da_files.specs.Frames.{Writes};
-ghost use Rattle.da_exchanging.specs.Made.{message_refusal, frame_refusal, IsMade};
+ghost use Rattle.da_exchanging.specs.Made.{pb_refusal, frame_refusal, IsMadeOutput};
 
 use celestia_pb::PbError;
 use da_files::Unread;
@@ -16,7 +16,7 @@ pub(crate) const FILE: u32 = 0;
 
 /// The status of why the bytes of FILE aren't read as a message.
 pub(crate) fn message_refusal(why: PbError) -> Status
-    ensures { result ≡ message_refusal why }
+    ensures { result ≡ pb_refusal why }
 {
     match why {
         PbError::At(at) => Status::BadInput(FILE, at),
@@ -37,7 +37,7 @@ pub(crate) fn frame_refusal(why: Unread) -> Status
 /// The spelling of a frame that has one.
 pub(crate) fn frame_text(alloc: Global, frame: Frame) -> Result<Vec<u8>, Status>
     requires { IsSome (spelling frame) }
-    ensures { IsMade (Writes frame) result }
+    ensures { IsMadeOutput (Writes frame) result }
 {
     let mut text = Vec::new(alloc);
     let written = write_frame(&frame, &mut text);

@@ -11,7 +11,7 @@ ghost use Rattle.da_status.specs.Judging.{Judged};
 ghost use Rattle.da_files.specs.Contents.{contents_of, file_of};
 ghost use Rattle.da_files.specs.Frames.{ReadsSingle, header_in};
 ghost use Rattle.da_files.specs.Forms.{single_judged};
-ghost use Rattle.da_exchanging.specs.Made.{IsMade};
+ghost use Rattle.da_exchanging.specs.Made.{IsMadeOutput};
 ghost use Rattle.da_exchanging.specs.NamespaceData.{data_under, namespace_data_judged, header_refusal, ImportNamespaceDataOf, entries_of, entries_in, StreamOf, ExportNamespaceDataOf};
 
 use crate::made::{FILE, frame_refusal, frame_text, message_refusal};
@@ -76,7 +76,7 @@ fn import_under(
     name: Namespace,
 ) -> Result<Vec<u8>, Status>
     requires { header_in (file_of (contents_of files.now) 1) ≡ Ok header }
-    ensures { IsMade (Judged (namespace_data_judged name (contents_of files.now))
+    ensures { IsMadeOutput (Judged (namespace_data_judged name (contents_of files.now))
         (ImportNamespaceDataOf name (contents_of files.now))) result }
 {
     namespace_data_laws();
@@ -104,7 +104,7 @@ fn header_refusal(why: Unread) -> Status
 
 /// The frame of the entries that the stream in FILE is under HEADER, which is judged first.
 pub(crate) fn import(alloc: Global, files: &[Vec<u8>], name: Namespace) -> Result<Vec<u8>, Status>
-    ensures { IsMade (Judged (namespace_data_judged name (contents_of files.now))
+    ensures { IsMadeOutput (Judged (namespace_data_judged name (contents_of files.now))
         (ImportNamespaceDataOf name (contents_of files.now))) result }
 {
     match header_in(alloc, file(files, HEADER)) {
@@ -140,7 +140,7 @@ fn entries_in(alloc: Global, bytes: &[u8]) -> Result<NsAnswer, Unread>
 
 /// The stream of entries.
 fn stream(alloc: Global, answer: &NsAnswer) -> Result<Vec<u8>, Status>
-    ensures { IsMade (StreamOf answer.now) result }
+    ensures { IsMadeOutput (StreamOf answer.now) result }
 {
     let Some(size) = namespace_data_size(answer) else {
         return Err(Status::BadRequest(Asked::Form));
@@ -154,7 +154,7 @@ fn stream(alloc: Global, answer: &NsAnswer) -> Result<Vec<u8>, Status>
 
 /// The stream of what was found of a namespace, in FILE.
 pub(crate) fn export(alloc: Global, files: &[Vec<u8>]) -> Result<Vec<u8>, Status>
-    ensures { IsMade (Judged (single_judged entries_in (contents_of files.now))
+    ensures { IsMadeOutput (Judged (single_judged entries_in (contents_of files.now))
         (ExportNamespaceDataOf (contents_of files.now))) result }
 {
     match entries_in(alloc, file(files, FILE)) {

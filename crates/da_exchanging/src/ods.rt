@@ -6,7 +6,7 @@ ghost use Rattle.da_status.specs.declared.status.Status.TheVariants as StatusOf;
 ghost use Rattle.da_files.specs.Contents.{contents_of};
 ghost use Rattle.da_files.specs.Frames.{square_in, WritesText};
 ghost use Rattle.da_files.specs.Forms.{single_judged};
-ghost use Rattle.da_exchanging.specs.Made.{IsMade};
+ghost use Rattle.da_exchanging.specs.Made.{IsMadeOutput};
 ghost use Rattle.da_exchanging.specs.Ods.{ImportOdsOf, ExportOdsOf};
 
 use crate::made::{FILE, frame_refusal, frame_text, message_refusal};
@@ -18,7 +18,7 @@ use std::alloc::Global;
 
 /// The frame of the square whose shares FILE is.
 pub(crate) fn import(alloc: Global, files: &[Vec<u8>]) -> Result<Vec<u8>, Status>
-    ensures { IsMade (Judged (single_judged ods_value (contents_of files.now))
+    ensures { IsMadeOutput (Judged (single_judged ods_value (contents_of files.now))
         (ImportOdsOf (contents_of files.now))) result }
 {
     match read_ods(alloc, file(files, FILE)) {
@@ -29,7 +29,7 @@ pub(crate) fn import(alloc: Global, files: &[Vec<u8>]) -> Result<Vec<u8>, Status
 
 /// The shares of a square.
 fn shares(alloc: Global, square: &Square) -> Result<Vec<u8>, Status>
-    ensures { IsMade (WritesText StatusOf.Done (ods_text square.now)) result }
+    ensures { IsMadeOutput (WritesText StatusOf.Done (ods_text square.now)) result }
 {
     let Ok(mut text) = Vec::with_capacity(alloc, ods_size(square)) else {
         return Err(Status::NoMemory);
@@ -40,7 +40,7 @@ fn shares(alloc: Global, square: &Square) -> Result<Vec<u8>, Status>
 
 /// The shares of the square in FILE.
 pub(crate) fn export(alloc: Global, files: &[Vec<u8>]) -> Result<Vec<u8>, Status>
-    ensures { IsMade (Judged (single_judged square_in (contents_of files.now))
+    ensures { IsMadeOutput (Judged (single_judged square_in (contents_of files.now))
         (ExportOdsOf (contents_of files.now))) result }
 {
     match square_in(alloc, file(files, FILE)) {

@@ -10,9 +10,9 @@ ghost use Rattle.da_status.specs.declared.status.Status.TheVariants as StatusOf;
 ghost use Rattle.da_files.specs.Contents.{contents_of};
 ghost use Rattle.da_files.specs.Frames.{WritesText};
 ghost use Rattle.da_files.specs.Forms.{single_judged};
-ghost use Rattle.da_exchanging.specs.Made.{IsMade};
-ghost use Rattle.da_exchanging.specs.LeftHalf.{samples_in, half_of};
-ghost use Rattle.da_exchanging.specs.Row.{row_frames, WritesAll, RowOf, ImportRowOf, samples_judged, HalfBy, ExportRowOf};
+ghost use Rattle.da_exchanging.specs.Made.{IsMadeOutput};
+ghost use Rattle.da_exchanging.specs.LeftHalf.{file_samples, half_of};
+ghost use Rattle.da_exchanging.specs.Row.{row_frames, WritesFrames, RowOf, ImportRowOf, samples_judged, HalfBy, ExportRowOf};
 
 use crate::left_half::half_in;
 use crate::made::{FILE, message_refusal};
@@ -50,7 +50,7 @@ fn append_frame(frame: Frame, text: &mut Vec<u8>) -> Result<(), NoMemory>
 
 /// The frames of the samples of a row, one after another.
 fn sample_frames(alloc: Global, samples: &RowSamples) -> Result<Vec<u8>, Status>
-    ensures { IsMade (WritesAll (row_frames samples.now)) result }
+    ensures { IsMadeOutput (WritesFrames (row_frames samples.now)) result }
 {
     let mut text = Vec::new(alloc);
     for col in 0..samples.count() {
@@ -64,7 +64,7 @@ fn sample_frames(alloc: Global, samples: &RowSamples) -> Result<Vec<u8>, Status>
 
 /// The frames of the samples of the row of this number that has a half.
 fn row_of(alloc: Global, row: u16, half: HalfRow) -> Result<Vec<u8>, Status>
-    ensures { IsMade (RowOf row half) result }
+    ensures { IsMadeOutput (RowOf row half) result }
 {
     match row_samples(alloc, row, half) {
         Ok(samples) => sample_frames(alloc, &samples),
@@ -76,7 +76,7 @@ fn row_of(alloc: Global, row: u16, half: HalfRow) -> Result<Vec<u8>, Status>
 
 /// The frames of the samples of the row of this number of which the message in FILE is half.
 pub(crate) fn import(alloc: Global, files: &[Vec<u8>], row: u16) -> Result<Vec<u8>, Status>
-    ensures { IsMade (Judged (single_judged half_row_value (contents_of files.now))
+    ensures { IsMadeOutput (Judged (single_judged half_row_value (contents_of files.now))
         (ImportRowOf row (contents_of files.now))) result }
 {
     match read_half_row(alloc, file(files, FILE)) {
@@ -87,7 +87,7 @@ pub(crate) fn import(alloc: Global, files: &[Vec<u8>], row: u16) -> Result<Vec<u
 
 /// The message of half a row.
 fn message(alloc: Global, half: &HalfRow) -> Result<Vec<u8>, Status>
-    ensures { IsMade (WritesText StatusOf.Done (half_row_text half.now)) result }
+    ensures { IsMadeOutput (WritesText StatusOf.Done (half_row_text half.now)) result }
 {
     let Ok(mut text) = Vec::with_capacity(alloc, half_row_size(half)) else {
         return Err(Status::NoMemory);
@@ -98,7 +98,7 @@ fn message(alloc: Global, half: &HalfRow) -> Result<Vec<u8>, Status>
 
 /// The message of half a row, where there is one.
 fn message_or_none(alloc: Global, half: Option<HalfRow>) -> Result<Vec<u8>, Status>
-    ensures { IsMade (HalfBy half) result }
+    ensures { IsMadeOutput (HalfBy half) result }
 {
     match half {
         Some(half) => message(alloc, &half),
@@ -108,7 +108,7 @@ fn message_or_none(alloc: Global, half: Option<HalfRow>) -> Result<Vec<u8>, Stat
 
 /// The message of the left half of the row of which the samples of a file are all.
 fn message_of_row(alloc: Global, bytes: &[u8]) -> Result<Vec<u8>, Status>
-    ensures { IsMade (HalfBy (half_of (samples_in bytes.now))) result }
+    ensures { IsMadeOutput (HalfBy (half_of (file_samples bytes.now))) result }
 {
     match half_in(alloc, bytes) {
         Ok(half) => message_or_none(alloc, half),
@@ -118,7 +118,7 @@ fn message_of_row(alloc: Global, bytes: &[u8]) -> Result<Vec<u8>, Status>
 
 /// The message of the left half of the row of which the samples in FILE are all.
 pub(crate) fn export(alloc: Global, files: &[Vec<u8>]) -> Result<Vec<u8>, Status>
-    ensures { IsMade (Judged (samples_judged (contents_of files.now))
+    ensures { IsMadeOutput (Judged (samples_judged (contents_of files.now))
         (ExportRowOf (contents_of files.now))) result }
 {
     let bytes = file(files, FILE);

@@ -2,13 +2,13 @@
 //! RowNamespaceData.
 
 ghost use Rattle.std.specs.Prelude.{◌≡◌, true, IsSome, IfOk};
-ghost use Rattle.celestia_pb.specs.RowData.{has_message, row_value};
+ghost use Rattle.celestia_pb.specs.RowData.{found_has_message, row_value};
 ghost use Rattle.da_wire.specs.Spelling.{spelling};
 ghost use Rattle.da_status.specs.Judging.{Judged};
 ghost use Rattle.da_files.specs.Contents.{contents_of};
 ghost use Rattle.da_files.specs.Forms.{single_judged};
-ghost use Rattle.da_exchanging.specs.Made.{WritesIf, IsMade};
-ghost use Rattle.da_exchanging.specs.Answers.{answer_in};
+ghost use Rattle.da_exchanging.specs.Made.{WritesIf, IsMadeOutput};
+ghost use Rattle.da_exchanging.specs.Answers.{ns_answer_in};
 ghost use Rattle.da_exchanging.specs.RowData.{row_frame, answer_message, ImportRowDataOf, ExportRowDataOf};
 
 use crate::answers::answer_in;
@@ -23,7 +23,7 @@ use std::alloc::Global;
 
 /// The frame of the answer for a namespace that has this one entry. The one refusal is that it is out of memory.
 fn row_frame(alloc: Global, name: Namespace, entry: NsEntry) -> Result<Frame, NoMemory>
-    requires { has_message entry.found ≡ true }
+    requires { found_has_message entry.found ≡ true }
     ensures value { IfOk result (λ frame. frame ≡ row_frame name entry) }
     ensures spelled { IfOk result (λ frame. IsSome (spelling frame)) }
 {
@@ -45,7 +45,7 @@ pub(crate) fn import(
     row: u16,
     name: Namespace,
 ) -> Result<Vec<u8>, Status>
-    ensures { IsMade (Judged (single_judged (row_value row) (contents_of files.now))
+    ensures { IsMadeOutput (Judged (single_judged (row_value row) (contents_of files.now))
         (ImportRowDataOf row name (contents_of files.now))) result }
 {
     row_data_laws();
@@ -62,7 +62,7 @@ pub(crate) fn import(
 
 /// The message of the one entry of an answer. An answer of none or of several, or of an entry without a message, is refused.
 fn message(alloc: Global, answer: &NsAnswer) -> Result<Vec<u8>, Status>
-    ensures { IsMade (WritesIf (answer_message answer.now)) result }
+    ensures { IsMadeOutput (WritesIf (answer_message answer.now)) result }
 {
     let [entry] = &answer.entries[..] else {
         return Err(Status::BadRequest(Asked::Form));
@@ -79,7 +79,7 @@ fn message(alloc: Global, answer: &NsAnswer) -> Result<Vec<u8>, Status>
 
 /// The message of the one entry of the answer in FILE.
 pub(crate) fn export(alloc: Global, files: &[Vec<u8>]) -> Result<Vec<u8>, Status>
-    ensures { IsMade (Judged (single_judged answer_in (contents_of files.now))
+    ensures { IsMadeOutput (Judged (single_judged ns_answer_in (contents_of files.now))
         (ExportRowDataOf (contents_of files.now))) result }
 {
     match answer_in(alloc, file(files, FILE)) {

@@ -8,7 +8,7 @@ ghost use Rattle.da_status.specs.declared.status.Status.TheVariants as StatusOf;
 ghost use Rattle.da_files.specs.Contents.{contents_of};
 ghost use Rattle.da_files.specs.Frames.{message_in, WritesText};
 ghost use Rattle.da_files.specs.Forms.{single_judged};
-ghost use Rattle.da_exchanging.specs.Made.{IsMade};
+ghost use Rattle.da_exchanging.specs.Made.{IsMadeOutput};
 ghost use Rattle.da_exchanging.specs.Sample.{sample_frame, message_text, ImportSampleOf, ExportSampleOf};
 
 use crate::made::{FILE, frame_refusal, frame_text, message_refusal};
@@ -38,7 +38,7 @@ fn sample_frame(cell: Cell, sample: Sample) -> Frame
 
 /// The frame of the sample of a cell that the message in FILE is.
 pub(crate) fn import(alloc: Global, files: &[Vec<u8>], cell: Cell) -> Result<Vec<u8>, Status>
-    ensures { IsMade (Judged (single_judged (sample_value cell) (contents_of files.now))
+    ensures { IsMadeOutput (Judged (single_judged (sample_value cell) (contents_of files.now))
         (ImportSampleOf cell (contents_of files.now))) result }
 {
     match read_sample(cell, file(files, FILE)) {
@@ -49,7 +49,7 @@ pub(crate) fn import(alloc: Global, files: &[Vec<u8>], cell: Cell) -> Result<Vec
 
 /// The message of a sample.
 fn message(alloc: Global, message: Message) -> Result<Vec<u8>, Status>
-    ensures { IsMade (WritesText StatusOf.Done (message_text message)) result }
+    ensures { IsMadeOutput (WritesText StatusOf.Done (message_text message)) result }
 {
     let cell = message.cell;
     let sample = Sample {
@@ -66,7 +66,7 @@ fn message(alloc: Global, message: Message) -> Result<Vec<u8>, Status>
 
 /// The message of the sample in FILE.
 pub(crate) fn export(alloc: Global, files: &[Vec<u8>]) -> Result<Vec<u8>, Status>
-    ensures { IsMade (Judged (single_judged message_in (contents_of files.now))
+    ensures { IsMadeOutput (Judged (single_judged message_in (contents_of files.now))
         (ExportSampleOf (contents_of files.now))) result }
 {
     match message_in(file(files, FILE)) {

@@ -8,7 +8,7 @@ ghost use Rattle.da_status.specs.Judging.{Judged};
 ghost use Rattle.da_files.specs.Contents.{contents_of};
 ghost use Rattle.da_files.specs.Frames.{ReadsSingle};
 ghost use Rattle.da_files.specs.Forms.{single_judged};
-ghost use Rattle.da_exchanging.specs.Made.{IsMade};
+ghost use Rattle.da_exchanging.specs.Made.{IsMadeOutput};
 ghost use Rattle.da_exchanging.specs.ShareProof.{rooted_of, rooted_in, ProofAnswer, ImportShareProofOf, ExportShareProofOf};
 
 use crate::made::{FILE, frame_refusal, frame_text, message_refusal};
@@ -58,7 +58,7 @@ fn rooted_frame(proof: RootedMessage) -> Frame
 
 /// The frame of the root proof that the message in FILE is.
 pub(crate) fn import(alloc: Global, files: &[Vec<u8>]) -> Result<Vec<u8>, Status>
-    ensures { IsMade (Judged (single_judged share_proof_value (contents_of files.now))
+    ensures { IsMadeOutput (Judged (single_judged share_proof_value (contents_of files.now))
         (ImportShareProofOf (contents_of files.now))) result }
 {
     match read_share_proof(file(files, FILE)) {
@@ -69,7 +69,7 @@ pub(crate) fn import(alloc: Global, files: &[Vec<u8>]) -> Result<Vec<u8>, Status
 
 /// The message of a root proof, if it has one.
 fn message(alloc: Global, proof: RootedMessage) -> Result<Vec<u8>, Status>
-    ensures { IsMade (ProofAnswer proof) result }
+    ensures { IsMadeOutput (ProofAnswer proof) result }
 {
     let Some(size) = share_proof_size(&proof) else {
         return Err(Status::BadRequest(Asked::Form));
@@ -83,7 +83,7 @@ fn message(alloc: Global, proof: RootedMessage) -> Result<Vec<u8>, Status>
 
 /// The message of the root proof in FILE, if it has one.
 pub(crate) fn export(alloc: Global, files: &[Vec<u8>]) -> Result<Vec<u8>, Status>
-    ensures { IsMade (Judged (single_judged rooted_in (contents_of files.now))
+    ensures { IsMadeOutput (Judged (single_judged rooted_in (contents_of files.now))
         (ExportShareProofOf (contents_of files.now))) result }
 {
     match rooted_in(alloc, file(files, FILE)) {

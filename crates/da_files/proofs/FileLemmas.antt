@@ -16,7 +16,7 @@ use Rattle.da_wire.specs.Laws.{OnlyIsSpelled, SpelledIsOnly}
 use Rattle.da_wire.specs.Single.{header_of, square_of}
 use Rattle.da_files.specs.declared.frames.BlockOrList.{BlockOrList}
 use Rattle.da_files.specs.declared.frames.BlockOrList.TheVariants as either
-use Rattle.da_files.specs.Frames.{single, header_in, square_in, block_kinds, block_or_list_of, block_or_list_frame, block_or_list_in}
+use Rattle.da_files.specs.Frames.{single_file, header_in, square_in, block_kinds, block_or_list_of, block_or_list_frame, block_or_list_in}
 
 -- a frame whose value of a kind is this one is that value's frame
 header_frame : (frame : Frame) (header : Roots) → header_of frame ≡ Some header → frame ≡ Header header
@@ -36,14 +36,14 @@ module _ {A : Type 0} (value : Frame → Option A) (make : A → Frame) (is_made
   made_by frame (Some y) x e h = let same : y ≡ x = cc in is_made frame x (e ∙ ap Some same)
 
   -- a file is read as a value where it is read as the value's frame, and the other way
-  pub single_value : (read : Result Frame FrameError) (x : A) → single value read ≡ Ok x → read ≡ Ok (make x)
+  pub single_value : (read : Result Frame FrameError) (x : A) → single_file value read ≡ Ok x → read ≡ Ok (make x)
   single_value (Err error) x h = absurd cc
   single_value (Ok frame) x h = ap Ok (made_by frame (value frame) x refl h)
 
   -- a file that is read as a value's frame is read as the value
-  pub value_single : (read : Result Frame FrameError) (x : A) → read ≡ Ok (make x) → single value read ≡ Ok x
+  pub value_single : (read : Result Frame FrameError) (x : A) → read ≡ Ok (make x) → single_file value read ≡ Ok x
   value_single read x h =
-      ap (single value) h ∙ ap (λ (o : Option A). option_map_or {U = Result A ℕ} Ok o (Err 0)) (is_value x)
+      ap (single_file value) h ∙ ap (λ (o : Option A). option_map_or {U = Result A ℕ} Ok o (Err 0)) (is_value x)
 
 -- a file is read as a header exactly where it is the header's one spelling
 pub header_file : OnlyIsSpelled → (bytes : List ℕ) (header : Roots) → AreBytes bytes

@@ -9,7 +9,7 @@ use Rattle.da_status.specs.Outcome.{Relation, Refuses, Ends, EndsAtOnce}
 use Rattle.da_status.specs.Judging.{first_bad, Judged}
 use Rattle.da_status.proofs.EndLemmas.{once_as, once_refused}
 use Rattle.da_files.specs.Frames.{error_of}
-use Rattle.da_files.specs.Forms.{IsRefusal, Over}
+use Rattle.da_files.specs.Forms.{IsFormRefusal, Over}
 
 -- the meaning by the first file that isn't in its form
 abbrev by_first : Relation → Option (ℕ × ℕ) → Relation
@@ -19,7 +19,7 @@ by_first Answer first w status = MatchOption first (Answer w status) (λ bad. Re
 
 -- a command whose files are refused ends by the status of the refusal, whatever its answers are
 pub refused_once : (judged : List (Option ℕ)) (Answer : Relation) (old : Option (List ℕ)) (before : ℕ) (Same : Type 0) (status : Status)
-    → IsRefusal judged status → Same → EndsAtOnce (Judged judged Answer) old old before before Same status
+    → IsFormRefusal judged status → Same → EndsAtOnce (Judged judged Answer) old old before before Same status
 refused_once judged Answer old before Same (BadInput i at) bad same =
     once_as (Refuses (BadInput i at)) (Judged judged Answer) old old before before Same (BadInput i at) (sym (ap (by_first Answer) bad))
     (once_refused i at old before Same same)
@@ -37,7 +37,7 @@ refused_once judged Answer old before Same status bad same = absurd bad
 
 -- so does one that doesn't take all of its memory before it writes
 pub refused_ends : (judged : List (Option ℕ)) (Answer : Relation) (old : Option (List ℕ)) (before : ℕ) (Same : Type 0) (status : Status)
-    → IsRefusal judged status → Same → Ends (Judged judged Answer) old old before before Same status
+    → IsFormRefusal judged status → Same → Ends (Judged judged Answer) old old before before Same status
 refused_ends judged Answer old before Same status refusal same = (refused_once judged Answer old before Same status refusal same).ends
 
 -- the first file that isn't in its form is the first of more files
@@ -47,7 +47,7 @@ bad_front i (None ∷ judged) more bad e = bad_front (suc i) judged more bad e
 bad_front i (Some at ∷ judged) more bad e = e
 
 -- a refusal of files refuses more files
-pub refused_more : (judged more : List (Option ℕ)) (status : Status) → IsRefusal judged status → IsRefusal (judged ++ more) status
+pub refused_more : (judged more : List (Option ℕ)) (status : Status) → IsFormRefusal judged status → IsFormRefusal (judged ++ more) status
 refused_more judged more (BadInput i at) bad = bad_front 0 judged more (i, at) bad
 refused_more judged more NoMemory bad = tt
 refused_more judged more status bad = absurd bad

@@ -10,7 +10,7 @@ use Rattle.da_wire.specs.Single.{single as read_single}
 use Rattle.da_wire.proofs.SingleLemmas.{IsNotFull, only_not_full, single_not_full}
 use Rattle.da_wire.specs.Streams.{offset_of}
 use Rattle.da_files.specs.declared.frames.Unread.TheVariants as reasons
-use Rattle.da_files.specs.Frames.{single, unread_of, ReadsSingle}
+use Rattle.da_files.specs.Frames.{single_file, unread_of, ReadsSingle}
 
 module _ {A : Type 0} where
   -- what a file is, or where it stops being one frame, by what its reader gives
@@ -24,12 +24,12 @@ module _ {A : Type 0} where
   told_by (Some value) = refl
 
   -- that of a frame of a kind
-  told : (value : Frame → Option A) (read : Result Frame FrameError) → single value read ≡ told_of (read_single value read)
+  told : (value : Frame → Option A) (read : Result Frame FrameError) → single_file value read ≡ told_of (read_single value read)
   told value (Err e) = refl
   told value (Ok frame) = told_by (value frame)
 
   -- a value that was read is what the file is
-  pub is_read : (value : Frame → Option A) (read : Result Frame FrameError) (a : A) → read_single value read ≡ Ok a → single value read ≡ Ok a
+  pub is_read : (value : Frame → Option A) (read : Result Frame FrameError) (a : A) → read_single value read ≡ Ok a → single_file value read ≡ Ok a
   is_read value read a e = told value read ∙ ap told_of e
 
   -- a value that there is is what the file is
@@ -55,7 +55,7 @@ module _ {A : Type 0} where
 
   -- why a file was not read as one frame of a kind
   pub is_unread : (value : Frame → Option A) (bytes kinds : List ℕ) (error : FrameError)
-      → Reads NoMemory (λ (a : A). a) (Err error) (read_single value (only_of bytes kinds)) → ReadsSingle (Err (unread_of error)) (single value (only_of bytes kinds))
+      → Reads NoMemory (λ (a : A). a) (Err error) (read_single value (only_of bytes kinds)) → ReadsSingle (Err (unread_of error)) (single_file value (only_of bytes kinds))
   is_unread value bytes kinds error h =
       subst (λ (x : Result A ℕ). ReadsSingle (Err (unread_of error)) x) (sym (told value (only_of bytes kinds)))
       (unread error (read_single value (only_of bytes kinds)) (single_not_full value (only_of bytes kinds) (only_not_full bytes kinds)) h)
@@ -74,7 +74,7 @@ module _ {A : Type 0} where
   -- why a file was not read as one frame of some kinds, which all have values
   pub values_unread : (value : Frame → Option A) (bytes kinds : List ℕ) (error : FrameError)
       → ((frame : Frame) → only_of bytes kinds ≡ Ok frame → IsSome (value frame)) → Reads NoMemory (λ (v : Frame). v) (Err error) (only_of bytes kinds)
-      → ReadsSingle (Err (unread_of error)) (single value (only_of bytes kinds))
+      → ReadsSingle (Err (unread_of error)) (single_file value (only_of bytes kinds))
   values_unread value bytes kinds error some (inl full) =
       is_unread value bytes kinds error (inl (full.0, value_ok value (only_of bytes kinds) some full.1))
   values_unread value bytes kinds error some (inr e) = is_unread value bytes kinds error (inr (ap (read_single value) e))
@@ -86,6 +86,6 @@ module _ {A : Type 0} where
 
   -- what a frame that was read has is what the file is
   pub values_read : (value : Frame → Option A) (read : Result Frame FrameError) (frame : Frame) → read ≡ Ok frame
-      → ReadsSingle (ok_or (value frame) (reasons.BadForm 0)) (single value read)
+      → ReadsSingle (ok_or (value frame) (reasons.BadForm 0)) (single_file value read)
   values_read value read frame e =
-      subst (λ (r : Result Frame FrameError). ReadsSingle (ok_or (value frame) (reasons.BadForm 0)) (single value r)) (sym e) (value_read (value frame))
+      subst (λ (r : Result Frame FrameError). ReadsSingle (ok_or (value frame) (reasons.BadForm 0)) (single_file value r)) (sym e) (value_read (value frame))

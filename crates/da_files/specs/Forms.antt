@@ -32,15 +32,15 @@ requests_judged kinds files = error_of (square_in (file_of files 0)) ∷ bad_val
 
 -- a command that stops at the files ends so: by the first that isn't in its form, at the place where it leaves it; or
 -- because memory ran out
-abbrev pub IsRefusal : List (Option ℕ) → Status → Type 0
-IsRefusal judged (BadInput i at) = first_bad 0 judged ≡ Some (i, at)
-IsRefusal judged NoMemory = ⊤
-IsRefusal judged status = ⊥
+abbrev pub IsFormRefusal : List (Option ℕ) → Status → Type 0
+IsFormRefusal judged (BadInput i at) = first_bad 0 judged ≡ Some (i, at)
+IsFormRefusal judged NoMemory = ⊤
+IsFormRefusal judged status = ⊥
 
 -- files were read, and all are in their forms; or they were refused by this status
 abbrev pub IsJudged : {A : Type 0} → List (Option ℕ) → Result A Status → Type 0
 IsJudged judged (Ok read) = first_bad 0 judged ≡ None
-IsJudged judged (Err status) = IsRefusal judged status
+IsJudged judged (Err status) = IsFormRefusal judged status
 
 -- the answer to what a file is; no answer belongs to a file that isn't in its form
 abbrev pub Over : {A : Type 0} → Result A ℕ → (A → Relation) → Relation

@@ -22,21 +22,21 @@ use Rattle.da_status.specs.declared.status.Status.TheVariants.{Done}
 use Rattle.da_status.specs.Outcome.{Relation}
 
 -- the value that a file is, or where it stops being one frame of its kind
-abbrev pub single : {A : Type 0} → (Frame → Option A) → Result Frame FrameError → Result A ℕ
-single value (Err e) = Err (offset_of e)
-single value (Ok frame) = option_map_or Ok (value frame) (Err 0)
+abbrev pub single_file : {A : Type 0} → (Frame → Option A) → Result Frame FrameError → Result A ℕ
+single_file value (Err e) = Err (offset_of e)
+single_file value (Ok frame) = option_map_or Ok (value frame) (Err 0)
 
 -- the header that a file is, or where it stops being a frame of one
 abbrev pub header_in : List ℕ → Result Roots ℕ
-header_in bytes = single header_of (only_of bytes (header_kind ∷ []))
+header_in bytes = single_file header_of (only_of bytes (header_kind ∷ []))
 
 -- the square that a file is, or where it stops being a frame of one
 abbrev pub square_in : List ℕ → Result SquareShares ℕ
-square_in bytes = single square_of (only_of bytes (square_kind ∷ []))
+square_in bytes = single_file square_of (only_of bytes (square_kind ∷ []))
 
 -- the sample that a file is, or where it stops being a frame of one
 abbrev pub message_in : List ℕ → Result sent.Message ℕ
-message_in bytes = single message_of (only_of bytes (message_kind ∷ []))
+message_in bytes = single_file message_of (only_of bytes (message_kind ∷ []))
 
 -- the kinds of frames of what is laid out as a square
 abbrev pub block_kinds : List ℕ
@@ -55,7 +55,7 @@ block_or_list_frame (Transactions transactions) = frames.Transactions transactio
 
 -- the block or the list of transactions that a file is, or where it stops being a frame of one
 abbrev pub block_or_list_in : List ℕ → Result BlockOrList ℕ
-block_or_list_in bytes = single block_or_list_of (only_of bytes block_kinds)
+block_or_list_in bytes = single_file block_or_list_of (only_of bytes block_kinds)
 
 -- why a file isn't one frame, by the refusal of the frame
 abbrev pub unread_of : FrameError → Unread

@@ -5,7 +5,7 @@ ghost use Rattle.frame_payloads.specs.kinds.Fraud.{is_unwritten};
 ghost use Rattle.frame_payloads.specs.kinds.Clash.{has_empty};
 ghost use Rattle.da_wire.specs.Spelling.{spelling};
 ghost use Rattle.da_wire.specs.declared.frames.Frame.TheVariants as FrameOf;
-ghost use Rattle.da_status.specs.Statuses.{kind_of, output};
+ghost use Rattle.da_status.specs.Statuses.{status_kind, output};
 ghost use Rattle.da_files.specs.Frames.{header_in, square_in, message_in, block_or_list_of, block_or_list_in, unread_of, ReadsSingle, Writes, WritesText, WritesWith};
 ghost use Rattle.da_status.specs.Outcome.{EndsAtOnce};
 
@@ -164,7 +164,7 @@ pub fn clash_frame(clash: Clash) -> Frame
 
 /// Writes a text as one piece, and answers a status of a complete output.
 pub fn put<O: Sink>(text: &[u8], status: Status, out: &mut O) -> Status
-    requires { kind_of status ≡ output }
+    requires { status_kind status ≡ output }
     ensures { EndsAtOnce (WritesText status text.now) (O.taken out.old) (O.taken out.new)
         (O.faults out.old) (O.faults out.new) (out.new ≡ out.old) result }
 {
@@ -178,7 +178,7 @@ pub fn put<O: Sink>(text: &[u8], status: Status, out: &mut O) -> Status
 /// takes the place of what `text` holds.
 pub fn give_with<O: Sink>(frame: Frame, status: Status, text: &mut Vec<u8>, out: &mut O) -> Status
     requires spelled { IsSome (spelling frame) }
-    requires status { kind_of status ≡ output }
+    requires status { status_kind status ≡ output }
     ensures { EndsAtOnce (WritesWith status frame) (O.taken out.old) (O.taken out.new)
         (O.faults out.old) (O.faults out.new) (out.new ≡ out.old) result }
 {

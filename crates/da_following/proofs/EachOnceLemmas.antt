@@ -13,7 +13,7 @@ use Rattle.namespace_id.specs.Names.{namespace_cmp}
 use Rattle.blob_feed.specs.Feeds.{Item, Height, heights_of, IsFedIn, IsFeedOf, Read}
 use Rattle.blob_feed.specs.Followers.{is_name}
 use Rattle.blob_feed.proofs.NameLemmas.{same_name, same_refl}
-use Rattle.da_following.specs.Follow.{each_once, Feed}
+use Rattle.da_following.specs.Follow.{each_once, RunFeed}
 
 -- of three tests two change places
 or_swap : (a b d : Bool) → (a || (b || d)) ≡ (b || (a || d))
@@ -82,11 +82,11 @@ module _ (wants other : Namespace → Type 0) (there : (name : Namespace) → wa
   fed_as (Some height) name (Some read) (wanted, blob, given) = (there name wanted, blob, given)
 
   -- so is a feed
-  feed_as : (items : List Item) (feed : Feed) → IsFeedOf wants items feed → IsFeedOf other items feed
+  feed_as : (items : List Item) (feed : RunFeed) → IsFeedOf wants items feed → IsFeedOf other items feed
   feed_as items feed is = λ number name. fed_as (slice_get (heights_of items) number) name (feed number name) (is number name)
 
 -- the same, at one place
-pub wanted_as : (names wanted : List Namespace) → names ≡ each_once wanted → (items : List Item) (feed : Feed)
+pub wanted_as : (names wanted : List Namespace) → names ≡ each_once wanted → (items : List Item) (feed : RunFeed)
     → IsFeedOf (λ (name : Namespace). list_any (is_name name) names ≡ true) items feed → IsFeedOf (Contains wanted) items feed
 wanted_as names wanted same items feed is =
     feed_as (λ (name : Namespace). list_any (is_name name) names ≡ true) (Contains wanted)
@@ -95,7 +95,7 @@ wanted_as names wanted same items feed is =
     items feed is
 
 -- and the other way
-pub wanted_by_list : (wanted : List Namespace) (items : List Item) (feed : Feed) → IsFeedOf (Contains wanted) items feed
+pub wanted_by_list : (wanted : List Namespace) (items : List Item) (feed : RunFeed) → IsFeedOf (Contains wanted) items feed
     → IsFeedOf (λ (name : Namespace). list_any (is_name name) (each_once wanted) ≡ true) items feed
 wanted_by_list wanted items feed is =
     feed_as (Contains wanted) (λ (name : Namespace). list_any (is_name name) (each_once wanted) ≡ true)

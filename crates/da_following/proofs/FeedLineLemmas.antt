@@ -6,7 +6,7 @@ use Rattle.std.proofs.lemmas.List.{length-append}
 use Rattle.std.proofs.lemmas.List.Elements.{filter-append}
 use Rattle.namespace_id.specs.declared.namespaces.Namespace.{Namespace}
 use Rattle.da_following.specs.declared.feed_lines.Told.{Told}
-use Rattle.da_following.specs.Follow.{Feed, Place, place_text, read_text, places_at, places_from, feed_lines, is_missing, missing_count, IsToldOf, IsToldMore}
+use Rattle.da_following.specs.Follow.{RunFeed, FeedPlace, place_text, read_text, places_at, places_from, feed_lines, is_place_missing, missing_count, IsToldOf, IsToldMore}
 
 -- of heights the last one comes last
 pub places_last : (wanted : List Namespace) (first count : ℕ)
@@ -16,31 +16,31 @@ places_last wanted first zero =
 places_last wanted first (suc count) =
     let next : first + 1 + count ≡ first + suc count = omega arith in
     ap (places_from wanted first) (let e : suc count + 1 ≡ suc (count + 1) = omega arith in e)
-    ∙ ap (λ (l : List Place). places_at wanted first ++ l) (places_last wanted (first + 1) count ∙ ap (λ (n : ℕ). places_from wanted (first + 1) count ++ places_at wanted n) next)
+    ∙ ap (λ (l : List FeedPlace). places_at wanted first ++ l) (places_last wanted (first + 1) count ∙ ap (λ (n : ℕ). places_from wanted (first + 1) count ++ places_at wanted n) next)
     ∙ sym (append_assoc (places_at wanted first) (places_from wanted (first + 1) count) (places_at wanted (first + suc count)))
 
-module _ (feed : Feed) where
+module _ (feed : RunFeed) where
   -- so much is left to tell: what was told and what is left are all
-  pub record IsLeft (all : List Place) (start : Told) (rest : List Place) (now : Told) : Type 0 where
+  pub record IsLeft (all : List FeedPlace) (start : Told) (rest : List FeedPlace) (now : Told) : Type 0 where
     pub lines : start.text.items ++ feed_lines feed all ≡ now.text.items ++ feed_lines feed rest
     pub missing : start.missing + missing_count feed all ≡ now.missing + missing_count feed rest
 
   -- the lines of some places and of others
-  pub lines_both : (front back : List Place) → feed_lines feed (front ++ back) ≡ feed_lines feed front ++ feed_lines feed back
+  pub lines_both : (front back : List FeedPlace) → feed_lines feed (front ++ back) ≡ feed_lines feed front ++ feed_lines feed back
   lines_both front back = flat_map-append (λ place. place_text place.0 place.1 ++ read_text (feed place.0 place.1)) front back
 
   -- and how many of them say that there is nothing
-  pub missing_both : (front back : List Place)
+  pub missing_both : (front back : List FeedPlace)
       → missing_count feed (front ++ back) ≡ missing_count feed front + missing_count feed back
   missing_both front back =
-      ap length (filter-append (is_missing feed) front back)
-      ∙ length-append (filter (is_missing feed) front) (filter (is_missing feed) back)
+      ap length (filter-append (is_place_missing feed) front back)
+      ∙ length-append (filter (is_place_missing feed) front) (filter (is_place_missing feed) back)
 
   -- the next places were told
-  pub left_less : (all places rest after : List Place) (start old new : Told) → IsLeft all start rest old
+  pub left_less : (all places rest after : List FeedPlace) (start old new : Told) → IsLeft all start rest old
       → rest ≡ places ++ after → IsToldMore feed places old new → IsLeft all start after new
   left_less all places rest after start old new left next more = record {
-    lines = left.lines ∙ ap (λ (l : List Place). old.text.items ++ feed_lines feed l) next
+    lines = left.lines ∙ ap (λ (l : List FeedPlace). old.text.items ++ feed_lines feed l) next
         ∙ ap (λ (l : List ℕ). old.text.items ++ l) (lines_both places after)
         ∙ sym (append_assoc old.text.items (feed_lines feed places) (feed_lines feed after))
         ∙ ap (λ (l : List ℕ). l ++ feed_lines feed after) (sym more.lines);

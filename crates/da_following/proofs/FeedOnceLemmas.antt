@@ -7,28 +7,28 @@ use Rattle.namespace_id.specs.declared.namespaces.Namespace.{Namespace}
 use Rattle.blob_feed.specs.Feeds.{Item, heights_of, FeedsAt, Read}
 use Rattle.blob_feed.specs.Followers.{is_name}
 use Rattle.da_status.specs.declared.status.Status.{Status}
-use Rattle.da_following.specs.Follow.{each_once, Feed, Place, place_text, read_text, places_from, feed_lines, is_missing, missing_count, feed_status, Follows}
+use Rattle.da_following.specs.Follow.{each_once, RunFeed, FeedPlace, place_text, read_text, places_from, feed_lines, is_place_missing, missing_count, feed_status, Follows}
 use Rattle.da_following.proofs.EachOnceLemmas.{wanted_by_list}
 
 -- one more is counted in both, or in none
-count_by : (b : Bool) (place : Place) (one other : List Place) → length one ≡ length other
+count_by : (b : Bool) (place : FeedPlace) (one other : List FeedPlace) → length one ≡ length other
     → length (cond b (place ∷ one) one) ≡ length (cond b (place ∷ other) other)
 count_by true place one other e = ap suc e
 count_by false place one other e = e
 
-module _ (feed other : Feed) (same : (number : ℕ) (name : Namespace) → feed number name ≡ other number name) where
+module _ (feed other : RunFeed) (same : (number : ℕ) (name : Namespace) → feed number name ≡ other number name) where
   -- feeds that are the same have the same lines
-  same_lines : (places : List Place) → feed_lines feed places ≡ feed_lines other places
+  same_lines : (places : List FeedPlace) → feed_lines feed places ≡ feed_lines other places
   same_lines [] = refl
   same_lines (place ∷ places) =
       ap₂ (λ (read : Option Read) (l : List ℕ). (place_text place.0 place.1 ++ read_text read) ++ l) (same place.0 place.1) (same_lines places)
 
   -- and miss the same
-  same_missing : (places : List Place) → missing_count feed places ≡ missing_count other places
+  same_missing : (places : List FeedPlace) → missing_count feed places ≡ missing_count other places
   same_missing [] = refl
   same_missing (place ∷ places) =
-      ap₂ (λ (read : Option Read) (l : List Place). length (cond (not (is_some read)) (place ∷ l) l)) (same place.0 place.1) refl
-      ∙ count_by (not (is_some (other place.0 place.1))) place (filter (is_missing feed) places) (filter (is_missing other) places)
+      ap₂ (λ (read : Option Read) (l : List FeedPlace). length (cond (not (is_some read)) (place ∷ l) l)) (same place.0 place.1) refl
+      ∙ count_by (not (is_some (other place.0 place.1))) place (filter (is_place_missing feed) places) (filter (is_place_missing other) places)
       (same_missing places)
 
 -- there is one output and one status

@@ -10,7 +10,7 @@ use Rattle.blob_feed.specs.Followers.{is_name}
 use Rattle.blob_feed.proofs.NameLemmas.{same_name, same_refl}
 use Rattle.da_status.specs.declared.status.Status.{Status}
 use Rattle.da_status.specs.declared.status.Status.TheVariants.{Done, Waiting}
-use Rattle.da_following.specs.Follow.{each_once, Feed, Place, places_at, places_from, places_of, feed_lines, is_missing, missing_count, HasAll, feed_status, Follows}
+use Rattle.da_following.specs.Follow.{each_once, RunFeed, FeedPlace, places_at, places_from, run_places, feed_lines, is_place_missing, missing_count, HasAll, feed_status, Follows}
 use Rattle.da_following.proofs.EachOnceLemmas.{wanted_there, wanted_found}
 use Rattle.da_following.proofs.FeedOnceLemmas.{follows_once}
 
@@ -29,9 +29,9 @@ none_passes test (x ∷ xs) =
     let rest = none_passes test xs in
     (λ e. let h = first.0 e in (h.0, rest.0 h.1), λ h. first.1 (h.0, rest.1 h.1))
 
-module _ (P : Place → Type 0) where
+module _ (P : FeedPlace → Type 0) where
   -- a fact holds of a height with each namespace, and of more places
-  at_height : (names : List Namespace) (number : ℕ) (more : List Place) → AllByRecursion P (places_at names number ++ more)
+  at_height : (names : List Namespace) (number : ℕ) (more : List FeedPlace) → AllByRecursion P (places_at names number ++ more)
       ↔ (AllByRecursion (λ (name : Namespace). P (number, name)) names × AllByRecursion P more)
   at_height [] number more = (λ h. (tt, h), λ h. h.1)
   at_height (name ∷ names) number more =
@@ -76,11 +76,11 @@ each_name Q (first ∷ names) =
     )
 
 -- something is had at each place exactly where each wanted namespace has something at each height
-all_had : (feed : Feed) (wanted : List Namespace) (count : ℕ) → (missing_count feed (places_from (each_once wanted) 0 count) ≡ 0) ↔ HasAll feed wanted count
+all_had : (feed : RunFeed) (wanted : List Namespace) (count : ℕ) → (missing_count feed (places_from (each_once wanted) 0 count) ≡ 0) ↔ HasAll feed wanted count
 all_had feed wanted count =
-    let P : Place → Type 0 = λ place. is_missing feed place ≡ false in
+    let P : FeedPlace → Type 0 = λ place. is_place_missing feed place ≡ false in
     let names = each_once wanted in
-    let none = none_passes (is_missing feed) (places_from names 0 count) in
+    let none = none_passes (is_place_missing feed) (places_from names 0 count) in
     let places = each_place P names 0 count in (
       λ e number name below there.
           not-false (is_some (feed number name))
@@ -109,21 +109,21 @@ module _ (wanted : List Namespace) (items : List Item)
     (once : (number : ℕ) (name : Namespace) (one other : Option Read)
     → FeedsAt (λ (n : Namespace). list_any (is_name n) (each_once wanted) ≡ true) items number name one
     → FeedsAt (λ (n : Namespace). list_any (is_name n) (each_once wanted) ≡ true) items number name other → one ≡ other)
-    (feed : Feed) (w : List ℕ) (status : Status) (is : IsFeedOf (Contains wanted) items feed) (follows : Follows wanted items w status) where
+    (feed : RunFeed) (w : List ℕ) (status : Status) (is : IsFeedOf (Contains wanted) items feed) (follows : Follows wanted items w status) where
   -- the status is that of the one feed
-  status_is : status ≡ feed_status (missing_count feed (places_of wanted items))
-  status_is = (follows_once wanted items once w (feed_lines feed (places_of wanted items)) status _ follows (feed, is, refl, refl)).1
+  status_is : status ≡ feed_status (missing_count feed (run_places wanted items))
+  status_is = (follows_once wanted items once w (feed_lines feed (run_places wanted items)) status _ follows (feed, is, refl, refl)).1
 
   -- a run is done exactly where each wanted namespace has something at each height
   pub follows_done : (status ≡ Done) ↔ HasAll feed wanted (length (heights_of items))
   follows_done =
-      let missing = missing_count feed (places_of wanted items) in
+      let missing = missing_count feed (run_places wanted items) in
       let done = done_by (missing == 0) missing refl in
       let had = all_had feed wanted (length (heights_of items)) in
       (λ e. had.0 (done.0 (sym status_is ∙ e)), λ h. status_is ∙ done.1 (had.1 h))
 
   -- it waits for so many exactly where nothing is had at so many places
-  pub follows_waits : (n : ℕ) → (status ≡ Waiting n) ↔ ((1 ≤ n) × (missing_count feed (places_of wanted items) ≡ n))
+  pub follows_waits : (n : ℕ) → (status ≡ Waiting n) ↔ ((1 ≤ n) × (missing_count feed (run_places wanted items) ≡ n))
   follows_waits n =
-      let missing = missing_count feed (places_of wanted items) in
+      let missing = missing_count feed (run_places wanted items) in
       let waits = waits_by (missing == 0) missing n refl in (λ e. waits.0 (sym status_is ∙ e), λ h. status_is ∙ waits.1 h)

@@ -7,7 +7,7 @@ use Rattle.blob_feed.specs.Feeds.{Item, heights_of}
 use Rattle.da_status.specs.declared.status.Asked.TheVariants.{At}
 use Rattle.da_status.specs.declared.status.Status.{Status}
 use Rattle.da_status.specs.declared.status.Status.TheVariants.{Done, BadRequest, Waiting}
-use Rattle.da_status.specs.Statuses.{kind_of}
+use Rattle.da_status.specs.Statuses.{status_kind}
 use Rattle.da_status.specs.Outcome.{Relation, Refuses}
 use Rattle.da_status.proofs.EndLemmas.{IsAnswer, status_answers}
 use Rattle.da_files.specs.Requests.{namespaces_in, failing_from}
@@ -16,13 +16,13 @@ use Rattle.da_following.specs.Follow.{wanted_file, answers_file, is_followed, ea
 -- ---- answers
 
 -- lines come with a complete output
-status_by : (b : Bool) (missing : ℕ) → IsAnswer (kind_of (cond b Done (Waiting missing)))
+status_by : (b : Bool) (missing : ℕ) → IsAnswer (status_kind (cond b Done (Waiting missing)))
 status_by true missing = tt
 status_by false missing = tt
 
 -- what is written for headers and answers comes with a complete output
 follows_answers : (wanted : List Namespace) (items : List Item) (w : List ℕ) (status : Status) → Follows wanted items w status
-    → IsAnswer (kind_of status)
+    → IsAnswer (status_kind status)
 follows_answers wanted items w status (feed, is, lines, ended) =
     let missing = missing_count feed (places_from (each_once wanted) 0 (length (heights_of items))) in
     status_answers status (feed_status missing) ended (status_by (missing == 0) missing)
@@ -34,12 +34,12 @@ asked_by wanted items o w status =
 
 -- it is an answer
 asked_answers : (wanted : List Namespace) (items : List Item) (o : Option ℕ) (w : List ℕ) (status : Status)
-    → asked_by wanted items o w status → IsAnswer (kind_of status)
+    → asked_by wanted items o w status → IsAnswer (status_kind status)
 asked_answers wanted items None w status h = follows_answers wanted items w status h
 asked_answers wanted items (Some i) w status h = status_answers status (BadRequest (At i)) h.1 tt
 
 -- what follow answers to its files is an answer
-pub follow_answers : (files : List (List ℕ)) (w : List ℕ) (status : Status) → FollowOf files w status → IsAnswer (kind_of status)
+pub follow_answers : (files : List (List ℕ)) (w : List ℕ) (status : Status) → FollowOf files w status → IsAnswer (status_kind status)
 follow_answers files w status h =
     let wanted = namespaces_in (wanted_file files) in
     asked_answers wanted (items_in (answers_file files)) (failing_from is_followed 0 wanted) w status h

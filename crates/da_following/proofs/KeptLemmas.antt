@@ -4,7 +4,7 @@ use Rattle.std.specs.Prelude.{ℕ}
 use Rattle.std.specs.Option.{option_map, option_or}
 use Rattle.std.proofs.lemmas.Bool.{cases_Bool}
 use Rattle.namespace_id.specs.declared.namespaces.Namespace.{Namespace}
-use Rattle.share_split.specs.Walks.{blobs_of}
+use Rattle.share_split.specs.Walks.{blobs_joined}
 use Rattle.data_header.specs.Headers.{Roots}
 use Rattle.square_serve.specs.declared.checking.NsRefusal.{NsRefusal}
 use Rattle.square_serve.specs.Answers.{answer_refusal}
@@ -13,7 +13,7 @@ use Rattle.blob_feed.specs.Followers.{is_name}
 use Rattle.blob_feed.specs.Firsts.{completes, first_read}
 use Rattle.blob_feed.proofs.NameLemmas.{same_name, same_refl}
 use Rattle.blob_feed.proofs.FirstLemmas.{first_more, map_or}
-use Rattle.da_following.specs.Heights.{said, said_by}
+use Rattle.da_following.specs.Heights.{said, first_said}
 
 -- one or else nothing is that one
 pub or_none : {X : Type 0} (o : Option X) → o ≡ option_or o None
@@ -43,34 +43,34 @@ if_map f false x o = refl
 
 -- behind some answers one more says what none of them does
 pub said_more : (header : Roots) (name : Namespace) (answers : List NamedAnswer) (given : NamedAnswer)
-    → said_by header name (answers ++ given ∷ []) ≡ option_or (said_by header name answers) (said_by header name (given ∷ []))
+    → first_said header name (answers ++ given ∷ []) ≡ option_or (first_said header name answers) (first_said header name (given ∷ []))
 said_more header name answers given =
     ap (option_map said) (first_more header name answers given)
     ∙ map_or said (first_read header name answers) (first_read header name (given ∷ []))
 
 module _ (header : Roots) (given : NamedAnswer) where
   -- an answer says nothing of another namespace
-  pub said_other : (other : Namespace) → is_name given.name other ≡ false → said_by header other (given ∷ []) ≡ None
+  pub said_other : (other : Namespace) → is_name given.name other ≡ false → first_said header other (given ∷ []) ≡ None
   said_other other e =
-      ap (λ (b : Bool). option_map said (option_map (λ (g : NamedAnswer). blobs_of (shares_shown g.answer))
+      ap (λ (b : Bool). option_map said (option_map (λ (g : NamedAnswer). blobs_joined (shares_shown g.answer))
       (cond (b && is_none (answer_refusal header given.name given.answer)) (Some given) None))) e
 
   -- what it says of its own, by whether it is complete
   said_own : (b : Bool) → completes header given.name given ≡ b
-      → said_by header given.name (given ∷ []) ≡ option_map said (option_map (λ (g : NamedAnswer). blobs_of (shares_shown g.answer))
+      → first_said header given.name (given ∷ []) ≡ option_map said (option_map (λ (g : NamedAnswer). blobs_joined (shares_shown g.answer))
       (cond b (Some given) None))
   said_own b e =
-      ap (λ (t : Bool). option_map said (option_map (λ (g : NamedAnswer). blobs_of (shares_shown g.answer)) (cond t (Some given) None))) e
+      ap (λ (t : Bool). option_map said (option_map (λ (g : NamedAnswer). blobs_joined (shares_shown g.answer)) (cond t (Some given) None))) e
 
   -- one that is refused says nothing of it
   pub said_refused : (why : NsRefusal) → answer_refusal header given.name given.answer ≡ Some why
-      → said_by header given.name (given ∷ []) ≡ None
+      → first_said header given.name (given ∷ []) ≡ None
   said_refused why some =
       said_own false (ap₂ (λ (b : Bool) (o : Option NsRefusal). b && is_none o) (same_refl given.name) some)
 
   -- one that is complete says what its shares are read as
   pub said_complete : (read : Read) → answer_refusal header given.name given.answer ≡ None
-      → read ≡ blobs_of (shares_shown given.answer) → said_by header given.name (given ∷ []) ≡ Some (said read)
+      → read ≡ blobs_joined (shares_shown given.answer) → first_said header given.name (given ∷ []) ≡ Some (said read)
   said_complete read none is =
       said_own true (ap₂ (λ (b : Bool) (o : Option NsRefusal). b && is_none o) (same_refl given.name) none)
       ∙ ap (λ (r : Read). Some (said r)) (sym is)
@@ -78,35 +78,35 @@ module _ (header : Roots) (given : NamedAnswer) where
   module _ (kept : Namespace → Option (List ℕ)) where
     -- what is kept of each namespace with the answer
     abbrev pub AreWith : (Namespace → Option (List ℕ)) → Type 0
-    AreWith new = (other : Namespace) → new other ≡ option_or (kept other) (said_by header other (given ∷ []))
+    AreWith new = (other : Namespace) → new other ≡ option_or (kept other) (first_said header other (given ∷ []))
 
     -- nothing more, where the answer says something of its namespace alone
-    same_other : (other : Namespace) → is_name given.name other ≡ false → kept other ≡ option_or (kept other) (said_by header other (given ∷ []))
+    same_other : (other : Namespace) → is_name given.name other ≡ false → kept other ≡ option_or (kept other) (first_said header other (given ∷ []))
     same_other other e = or_none (kept other) ∙ ap (option_or (kept other)) (sym (said_other other e))
 
     -- something is kept of the namespace already
     pub kept_already : is_some (kept given.name) ≡ true → AreWith kept
     kept_already some = λ other. elim (cases_Bool (is_name given.name other)) [
-      | inl e ↦ or_some (kept other) (said_by header other (given ∷ []))
+      | inl e ↦ or_some (kept other) (first_said header other (given ∷ []))
           (subst (λ (n : Namespace). is_some (kept n) ≡ true) (same_name given.name other e) some)
       | inr e ↦ same_other other e
     ]
 
     -- the answer says nothing
-    pub kept_so : said_by header given.name (given ∷ []) ≡ None → AreWith kept
+    pub kept_so : first_said header given.name (given ∷ []) ≡ None → AreWith kept
     kept_so none = λ other. elim (cases_Bool (is_name given.name other)) [
       | inl e ↦ or_none (kept other) ∙ ap (option_or (kept other))
-          (sym (subst (λ (n : Namespace). said_by header n (given ∷ []) ≡ None) (same_name given.name other e) none))
+          (sym (subst (λ (n : Namespace). first_said header n (given ∷ []) ≡ None) (same_name given.name other e) none))
       | inr e ↦ same_other other e
     ]
 
     -- it is the first to say something
     pub kept_new : (text : List ℕ) (new : Namespace → Option (List ℕ)) → kept given.name ≡ None
-        → said_by header given.name (given ∷ []) ≡ Some text
+        → first_said header given.name (given ∷ []) ≡ Some text
         → ((other : Namespace) → new other ≡ (if is_name given.name other then Some text else kept other)) → AreWith new
     kept_new text new none says is = λ other. elim (cases_Bool (is_name given.name other)) [
       | inl e ↦ is other ∙ ap (λ (b : Bool). if b then Some text else kept other) e
-          ∙ subst (λ (n : Namespace). Some text ≡ option_or (kept n) (said_by header n (given ∷ []))) (same_name given.name other e)
+          ∙ subst (λ (n : Namespace). Some text ≡ option_or (kept n) (first_said header n (given ∷ []))) (same_name given.name other e)
           (sym (ap₂ option_or none says))
       | inr e ↦ is other ∙ ap (λ (b : Bool). if b then Some text else kept other) e ∙ same_other other e
     ]

@@ -13,7 +13,7 @@ use Rattle.blob_feed.proofs.ZipLemmas.{get_behind}
 use Rattle.da_following.specs.declared.heights.UnderWay.{UnderWay}
 use Rattle.da_following.specs.declared.heights.Way.{Way}
 use Rattle.da_following.specs.Follow.{places_at, places_from, IsToldOf, IsToldMore}
-use Rattle.da_following.specs.Heights.{said, said_by, said_at, AreSaid, read_at, fed_by, heights_left, IsOnWay}
+use Rattle.da_following.specs.Heights.{said, first_said, said_at, AreSaid, read_at, fed_by, heights_left, IsOnWay}
 use Rattle.da_following.proofs.FeedLineLemmas.{none_told, told_more}
 use Rattle.da_following.proofs.FeedStatusLemmas.{each_name}
 use Rattle.da_following.proofs.KeptLemmas.{or_none, said_more, said_other}
@@ -42,7 +42,7 @@ module _ (names : List Namespace) where
     parts = ap (λ (o : Option UnderWay). heights_left o [] items) (sym none);
     number = number;
     kept = subst (λ (o : Option UnderWay). IfSome o (λ (height : UnderWay). (name : Namespace) → list_any (is_name name) names ≡ true
-        → said_at height name ≡ said_by height.header name [])) (sym none) tt;
+        → said_at height name ≡ first_said height.header name [])) (sym none) tt;
     told = none_told (fed_by names (heights_of items)) names way.told empty zero;
   }
 
@@ -50,7 +50,7 @@ module _ (names : List Namespace) where
     -- what is kept of a height is, of a namespace, what the heights feed there
     fed_there : (behind later : List Height) (header : Roots) (answers : List NamedAnswer) (name : Namespace)
         → all ≡ behind ++ height_with header answers ∷ later → list_any (is_name name) names ≡ true
-        → said_by header name answers ≡ option_map said (fed_by names all (length behind) name)
+        → first_said header name answers ≡ option_map said (fed_by names all (length behind) name)
     fed_there behind later header answers name parts found =
         ap (λ (o : Option Height). option_map said (read_at o name))
         (sym (ap (λ (l : List Height). slice_get l (length behind)) parts ∙ get_behind behind (height_with header answers) later))
@@ -66,7 +66,7 @@ module _ (names : List Namespace) where
         on.parts ∙ ap (λ (o : Option UnderWay). on.behind ++ heights_left o on.before rest) is
         ∙ ap (λ (h : Height). on.behind ++ h ∷ heights_of rest) whole in
         let kept = subst (λ (o : Option UnderWay). IfSome o (λ (h : UnderWay). (name : Namespace) → list_any (is_name name) names ≡ true
-        → said_at h name ≡ said_by h.header name on.before)) is on.kept in
+        → said_at h name ≡ first_said h.header name on.before)) is on.kept in
         (each_name (λ (name : Namespace). said_at height name ≡ option_map said (fed_by names all way.number name)) names).1
         (λ name found. kept name found ∙ fed_there on.behind (heights_of rest) height.header on.before name parts found
         ∙ ap (λ (n : ℕ). option_map said (fed_by names all n name)) (sym on.number))
@@ -86,7 +86,7 @@ module _ (names : List Namespace) where
               ∙ ap (λ (o : Option UnderWay). (on.behind ++ last ∷ []) ++ heights_left o [] rest) (sym closed);
           number = number ∙ sym long;
           kept = subst (λ (o : Option UnderWay). IfSome o (λ (h : UnderWay). (name : Namespace) → list_any (is_name name) names ≡ true
-              → said_at h name ≡ said_by h.header name [])) (sym closed) tt;
+              → said_at h name ≡ first_said h.header name [])) (sym closed) tt;
           told = subst (λ (n : ℕ). IsToldOf (fed_by names all) (places_from names 0 n) new.told) (sym long)
               (told_more (fed_by names all) names old.number old.told new.told
               (subst (λ (n : ℕ). IsToldOf (fed_by names all) (places_from names 0 n) old.told) (sym on.number) on.told) more);
@@ -105,7 +105,7 @@ module _ (names : List Namespace) where
           ∙ ap (λ (o : Option UnderWay). on.behind ++ heights_left o [] later) (sym is);
       number = number ∙ on.number;
       kept = subst (λ (o : Option UnderWay). IfSome o (λ (h : UnderWay). (name : Namespace) → list_any (is_name name) names ≡ true
-          → said_at h name ≡ said_by h.header name [])) (sym is) (λ name found. empty name);
+          → said_at h name ≡ first_said h.header name [])) (sym is) (λ name found. empty name);
       told = subst (IsToldOf (fed_by names all) (places_from names 0 (length on.behind))) (sym told) on.told;
     }
 
@@ -128,7 +128,7 @@ module _ (names : List Namespace) where
         → IsOnWay names all old (answered given ∷ later) → old.height ≡ Some before → new.told ≡ old.told → new.number ≡ old.number
         → new.height ≡ Some height → height.header ≡ before.header
         → ((name : Namespace) → list_any (is_name name) names ≡ true
-        → said_at height name ≡ option_or (said_at before name) (said_by before.header name (given ∷ [])))
+        → said_at height name ≡ option_or (said_at before name) (first_said before.header name (given ∷ [])))
         → IsOnWay names all new later
     unfolding heights_of answers_ahead
     way_answered old new later given before height on was told number is same more = record {
@@ -142,12 +142,12 @@ module _ (names : List Namespace) where
       number = number ∙ on.number;
       kept =
           let kept = subst (λ (o : Option UnderWay). IfSome o (λ (h : UnderWay). (name : Namespace) → list_any (is_name name) names ≡ true
-          → said_at h name ≡ said_by h.header name on.before)) was on.kept in
+          → said_at h name ≡ first_said h.header name on.before)) was on.kept in
           subst (λ (o : Option UnderWay). IfSome o (λ (h : UnderWay). (name : Namespace) → list_any (is_name name) names ≡ true
-          → said_at h name ≡ said_by h.header name (on.before ++ given ∷ []))) (sym is)
-          (λ name found. more name found ∙ ap (λ (o : Option (List ℕ)). option_or o (said_by before.header name (given ∷ []))) (kept name found)
+          → said_at h name ≡ first_said h.header name (on.before ++ given ∷ []))) (sym is)
+          (λ name found. more name found ∙ ap (λ (o : Option (List ℕ)). option_or o (first_said before.header name (given ∷ []))) (kept name found)
           ∙ sym (said_more before.header name on.before given)
-          ∙ ap (λ (h : Roots). said_by h name (on.before ++ given ∷ [])) (sym same));
+          ∙ ap (λ (h : Roots). first_said h name (on.before ++ given ∷ [])) (sym same));
       told = subst (IsToldOf (fed_by names all) (places_from names 0 (length on.behind))) (sym told) on.told;
     }
 

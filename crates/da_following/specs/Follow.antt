@@ -68,8 +68,8 @@ bad_feed bytes = if begins_with_answer bytes then Some 0 else bad_value feed_kin
 -- ---- lines
 
 -- what each height, counted from 0, has of each namespace
-abbrev pub Feed : Type 0
-Feed = ℕ → names.Namespace → Option Read
+abbrev pub RunFeed : Type 0
+RunFeed = ℕ → names.Namespace → Option Read
 
 -- the line of a blob: how many bytes it has, and their SHA-256 value
 abbrev pub blob_line : NamedBytes → List ℕ
@@ -96,47 +96,47 @@ read_text (Some (Err why)) = fault_text why
 read_text None = codes " missing\n"
 
 -- a height and a namespace
-abbrev pub Place : Type 0
-Place = ℕ × names.Namespace
+abbrev pub FeedPlace : Type 0
+FeedPlace = ℕ × names.Namespace
 
 -- a height with each of these namespaces
-abbrev pub places_at : List names.Namespace → ℕ → List Place
+abbrev pub places_at : List names.Namespace → ℕ → List FeedPlace
 places_at wanted number = map (λ name. (number, name)) wanted
 
 -- each height from a first one on, so many, with each of these namespaces
-abbrev pub places_from : List names.Namespace → ℕ → ℕ → List Place
+abbrev pub places_from : List names.Namespace → ℕ → ℕ → List FeedPlace
 places_from wanted first count = flat_map (places_at wanted) (range_with_len first count)
 
 -- the lines of places, in their order
-abbrev pub feed_lines : Feed → List Place → List ℕ
+abbrev pub feed_lines : RunFeed → List FeedPlace → List ℕ
 feed_lines feed places = flat_map (λ place. place_text place.0 place.1 ++ read_text (feed place.0 place.1)) places
 
 -- whether nothing is had at a place
-abbrev pub is_missing : Feed → Place → Bool
-is_missing feed place = not (is_some (feed place.0 place.1))
+abbrev pub is_place_missing : RunFeed → FeedPlace → Bool
+is_place_missing feed place = not (is_some (feed place.0 place.1))
 
 -- at how many places nothing is had
-abbrev pub missing_count : Feed → List Place → ℕ
-missing_count feed places = length (filter (is_missing feed) places)
+abbrev pub missing_count : RunFeed → List FeedPlace → ℕ
+missing_count feed places = length (filter (is_place_missing feed) places)
 
 -- these are the lines of places, and of so many nothing is had
-pub record IsToldOf (feed : Feed) (places : List Place) (told : Told) : Type 0 where
+pub record IsToldOf (feed : RunFeed) (places : List FeedPlace) (told : Told) : Type 0 where
   pub lines : told.text.items ≡ feed_lines feed places
   pub missing : told.missing ≡ missing_count feed places
 
 -- the lines of places were added
-pub record IsToldMore (feed : Feed) (places : List Place) (old new : Told) : Type 0 where
+pub record IsToldMore (feed : RunFeed) (places : List FeedPlace) (old new : Told) : Type 0 where
   pub lines : new.text.items ≡ old.text.items ++ feed_lines feed places
   pub missing : new.missing ≡ old.missing + missing_count feed places
 
 -- ---- the command
 
 -- the places of a run: each height with each of the wanted namespaces once, ascending
-abbrev pub places_of : List names.Namespace → List Item → List Place
-places_of wanted items = places_from (each_once wanted) 0 (length (heights_of items))
+abbrev pub run_places : List names.Namespace → List Item → List FeedPlace
+run_places wanted items = places_from (each_once wanted) 0 (length (heights_of items))
 
 -- at each of so many heights something is had of each wanted namespace
-abbrev pub HasAll : Feed → List names.Namespace → ℕ → Type 0
+abbrev pub HasAll : RunFeed → List names.Namespace → ℕ → Type 0
 HasAll feed wanted count =
     (number : ℕ) (name : names.Namespace) → number < count → Contains wanted name → IsSome (feed number name)
 
@@ -147,8 +147,8 @@ feed_status missing = if missing == 0 then Done else Waiting missing
 -- what is written for headers and answers: for each height in its order, and at each for each of the wanted
 -- namespaces once, ascending, the lines of what the feed of the wanted namespaces has there
 abbrev pub Follows : List names.Namespace → List Item → Relation
-Follows wanted items w status = (feed : Feed) × IsFeedOf (Contains wanted) items feed
-    × (w ≡ feed_lines feed (places_of wanted items)) × (status ≡ feed_status (missing_count feed (places_of wanted items)))
+Follows wanted items w status = (feed : RunFeed) × IsFeedOf (Contains wanted) items feed
+    × (w ≡ feed_lines feed (run_places wanted items)) × (status ≡ feed_status (missing_count feed (run_places wanted items)))
 
 -- what is answered: where all wanted namespaces can be followed, what is written; else the first that can't is refused
 abbrev pub FollowsAsked : List names.Namespace → List Item → Relation

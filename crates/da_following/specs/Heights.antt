@@ -11,7 +11,7 @@ use Rattle.blob_feed.specs.Followers.{is_name}
 use Rattle.blob_feed.specs.Firsts.{first_read}
 use Rattle.da_following.specs.declared.heights.UnderWay.{UnderWay}
 use Rattle.da_following.specs.declared.heights.Way.{Way}
-use Rattle.da_following.specs.Follow.{Feed, read_text, places_from, IsToldOf}
+use Rattle.da_following.specs.Follow.{RunFeed, read_text, places_from, IsToldOf}
 
 -- ---- what lines say
 
@@ -20,15 +20,15 @@ abbrev pub said : Read → List ℕ
 said read = read_text (Some read)
 
 -- by the first of these answers that is complete under the header, if one is
-abbrev pub said_by : Roots → Namespace → List NamedAnswer → Option (List ℕ)
-said_by header name answers = option_map said (first_read header name answers)
+abbrev pub first_said : Roots → Namespace → List NamedAnswer → Option (List ℕ)
+first_said header name answers = option_map said (first_read header name answers)
 
 -- by what is kept of the height under way, if something is
 abbrev pub said_at : UnderWay → Namespace → Option (List ℕ)
 said_at height name = option_map (λ (text : Vec ℕ Global). text.items) (lookup (is_name name) height.texts.entries)
 
 -- what is kept of the height under way is, of each of these namespaces, what the lines of a feed say at this height
-abbrev pub AreSaid : Feed → ℕ → UnderWay → List Namespace → Type 0
+abbrev pub AreSaid : RunFeed → ℕ → UnderWay → List Namespace → Type 0
 AreSaid feed number height names =
     AllByRecursion (λ (name : Namespace). said_at height name ≡ option_map said (feed number name)) names
 
@@ -40,7 +40,7 @@ read_at None name = None
 read_at (Some height) name = first_read height.header name height.answers
 
 -- what heights feed of these namespaces; of others nothing
-abbrev pub fed_by : List Namespace → List Height → Feed
+abbrev pub fed_by : List Namespace → List Height → RunFeed
 fed_by names heights = λ number name. if list_any (is_name name) names then read_at (slice_get heights number) name else None
 
 -- ---- the way through a run
@@ -59,7 +59,7 @@ pub record IsOnWay (names : List Namespace) (all : List Height) (way : Way) (res
   pub parts : all ≡ behind ++ heights_left way.height before rest
   pub number : way.number ≡ length behind
   pub kept : IfSome way.height (λ (height : UnderWay). (name : Namespace) → list_any (is_name name) names ≡ true
-      → said_at height name ≡ said_by height.header name before)
+      → said_at height name ≡ first_said height.header name before)
   pub told : IsToldOf (fed_by names all) (places_from names 0 (length behind)) way.told
 
 -- how many heights began: those behind, and that under way

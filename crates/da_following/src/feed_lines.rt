@@ -6,7 +6,7 @@ ghost use Rattle.std.specs.Option.{option_map};
 ghost use Rattle.sha2.specs.Sha256.{sha256};
 ghost use Rattle.blob_feed.specs.Feeds.{read_of};
 ghost use Rattle.da_following.specs.Follow.{blob_line, place_text, count_text, fault_text};
-ghost use Rattle.da_following.specs.Heights.{said, said_by};
+ghost use Rattle.da_following.specs.Heights.{said, first_said};
 
 use axis_roots::NsAnswer;
 use blob_feed::{Entry, ReadError, read_answer};
@@ -120,7 +120,7 @@ pub fn text_of(
     name: &Namespace,
     answer: &NsAnswer,
 ) -> Result<Option<Vec<u8>>, NoMemory>
-    ensures { IfOk result (λ text. option_map (λ t. t.items) text ≡ said_by header.now name.now
+    ensures { IfOk result (λ text. option_map (λ t. t.items) text ≡ first_said header.now name.now
         (record { name = name.now; answer = answer.now } ∷ [])) }
 {
     let entry = match read_answer(alloc, header, name, answer) {

@@ -4,7 +4,7 @@ ghost use Rattle.std.specs.Prelude.{◌≡◌, ◌⊎◌, ◌↔◌, ◌+◌, �
 ghost use Rattle.std.specs.List.{list_any, cons_option, Contains};
 ghost use Rattle.namespace_id.specs.declared.namespaces.Namespace.{Namespace as Name};
 ghost use Rattle.namespace_id.specs.Bytes.{AreBytes};
-ghost use Rattle.share_split.specs.Walks.{blobs_of};
+ghost use Rattle.share_split.specs.Walks.{blobs_joined};
 ghost use Rattle.data_header.specs.Headers.{Roots};
 ghost use Rattle.square_layout.specs.Blocks.{SquareShares};
 ghost use Rattle.axis_roots.specs.Grids.{IsHeaderOf};
@@ -12,11 +12,11 @@ ghost use Rattle.blob_feed.specs.Feeds.{Item, Height, heights_of, header_at, Rea
 ghost use Rattle.blob_feed.specs.Followers.{is_name};
 ghost use Rattle.da_status.specs.declared.status.Status.{Status as Ended};
 ghost use Rattle.da_status.specs.declared.status.Status.TheVariants.{Done, Waiting};
-ghost use Rattle.da_status.specs.Statuses.{kind_of, output};
+ghost use Rattle.da_status.specs.Statuses.{status_kind, output};
 ghost use Rattle.da_status.specs.Outcome.{EndsAtOnce};
 ghost use Rattle.da_files.specs.Contents.{contents_of};
 ghost use Rattle.da_files.specs.Requests.{failing_from, namespaces_in};
-ghost use Rattle.da_following.specs.Follow.{is_followed, each_once, item_of, items_in, bad_feed, Feed, places_from, IsToldOf, places_of, missing_count, HasAll, feed_status, Follows, FollowsAsked, follow_judged, FollowOf};
+ghost use Rattle.da_following.specs.Follow.{is_followed, each_once, item_of, items_in, bad_feed, RunFeed, places_from, IsToldOf, run_places, missing_count, HasAll, feed_status, Follows, FollowsAsked, follow_judged, FollowOf};
 ghost use Rattle.da_following.specs.Heights.{fed_by, IsOnWay, begun};
 ghost use Rattle.da_status.specs.Judging.{Judged};
 
@@ -193,22 +193,22 @@ pub fn follow_laws()
 
     // At a height whose header is that of a square, what is told of a namespace is what the square's
     // shares of it are read as, or the first complete answer and the square name a collision.
-    ensures own { (wanted : List Name) (answers : List ℕ) (feed : Feed) (number : ℕ) (name : Name)
+    ensures own { (wanted : List Name) (answers : List ℕ) (feed : RunFeed) (number : ℕ) (name : Name)
         (read : Read) (header : Roots) (square : SquareShares) → AreBytes answers →
         IsFeedOf (Contains wanted) (items_in answers) feed → feed number name ≡ Some read →
         header_at (items_in answers) number ≡ Some header → IsHeaderOf header square →
-        (read ≡ blobs_of (shares_in square name))
+        (read ≡ blobs_joined (shares_in square name))
         ⊎ FirstNames (items_in answers) number name square }
 
     // A run is done exactly where something is had of each wanted namespace at each height. It waits
     // exactly where at places, one at least, nothing is had, and for as many.
-    ensures done { (wanted : List Name) (items : List Item) (feed : Feed) (w : List ℕ)
+    ensures done { (wanted : List Name) (items : List Item) (feed : RunFeed) (w : List ℕ)
         (status : Ended) → IsFeedOf (Contains wanted) items feed → Follows wanted items w status →
         (status ≡ Done) ↔ HasAll feed wanted (length (heights_of items)) }
-    ensures waits { (wanted : List Name) (items : List Item) (feed : Feed) (w : List ℕ)
+    ensures waits { (wanted : List Name) (items : List Item) (feed : RunFeed) (w : List ℕ)
         (status : Ended) → IsFeedOf (Contains wanted) items feed → Follows wanted items w status →
         (n : ℕ) → (status ≡ Waiting n)
-        ↔ ((1 ≤ n) × (missing_count feed (places_of wanted items) ≡ n)) }
+        ↔ ((1 ≤ n) × (missing_count feed (run_places wanted items) ≡ n)) }
 {
     value_laws();
     feed_laws::<Listed>();
@@ -234,9 +234,9 @@ fn told_of(
 /// The lines of what comes of answers for the namespaces that are asked for, which are ones of blobs.
 fn told(alloc: Global, wanted: &[u8], answers: &[u8]) -> Result<Told, NoMemory>
     requires { failing_from is_followed 0 (namespaces_in wanted.now) ≡ None }
-    ensures { IfOk result (λ told. (feed : Feed)
+    ensures { IfOk result (λ told. (feed : RunFeed)
         × IsFeedOf (Contains (namespaces_in wanted.now)) (items_in answers.now) feed
-        × IsToldOf feed (places_of (namespaces_in wanted.now) (items_in answers.now)) told) }
+        × IsToldOf feed (run_places (namespaces_in wanted.now) (items_in answers.now)) told) }
 {
     feed_laws::<Listed>();
     let names = wanted_set(alloc, wanted)?;
@@ -247,7 +247,7 @@ fn told(alloc: Global, wanted: &[u8], answers: &[u8]) -> Result<Told, NoMemory>
 /// The status of lines of which so many say that there is nothing.
 pub fn feed_status(missing: u64) -> Status
     ensures value { result ≡ feed_status missing }
-    ensures output { kind_of result ≡ output }
+    ensures output { status_kind result ≡ output }
 {
     if missing == 0 {
         Status::Done

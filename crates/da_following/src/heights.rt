@@ -5,8 +5,8 @@ ghost use Rattle.std.specs.List.{AllByRecursion};
 ghost use Rattle.std.specs.Option.{option_map, option_or};
 ghost use Rattle.namespace_id.specs.declared.namespaces.Namespace.{Namespace as Name};
 ghost use Rattle.blob_feed.specs.Feeds.{Item, Height, headed, answered, answers_ahead, heights_of};
-ghost use Rattle.da_following.specs.Follow.{Feed, places_at, IsToldOf, IsToldMore};
-ghost use Rattle.da_following.specs.Heights.{said, said_by, said_at, AreSaid, IsOnWay, begun};
+ghost use Rattle.da_following.specs.Follow.{RunFeed, places_at, IsToldOf, IsToldMore};
+ghost use Rattle.da_following.specs.Heights.{said, first_said, said_at, AreSaid, IsOnWay, begun};
 
 use crate::feed_lines::{Told, append, place_text, text_of};
 use axis_roots::NsAnswer;
@@ -36,7 +36,7 @@ impl UnderWay {
     fn take(&mut self, alloc: Global, name: &Namespace, answer: &NsAnswer) -> Result<(), NoMemory>
         ensures header { self.new.header ≡ self.old.header }
         ensures said { OnOk result ((other : Name) → said_at self.new other ≡
-            option_or (said_at self.old other) (said_by self.old.header other
+            option_or (said_at self.old other) (first_said self.old.header other
             (record { name = name.now; answer = answer.now } ∷ []))) }
     {
         if self.texts.contains_key(name) {
@@ -61,7 +61,7 @@ fn put_place(
     told: &mut Told,
 ) -> Result<(), NoMemory>
     requires { told.old.missing ≤ length told.old.text.items }
-    ensures more { OnOk result ((feed : Feed) →
+    ensures more { OnOk result ((feed : RunFeed) →
         said_at height.now name.now ≡ option_map said (feed number name.now) →
         IsToldMore feed ((number, name.now) ∷ []) told.old told.new) }
     ensures fits { OnOk result (told.new.missing ≤ length told.new.text.items) }
@@ -85,7 +85,7 @@ fn put_height(
     told: &mut Told,
 ) -> Result<(), NoMemory>
     requires { told.old.missing ≤ length told.old.text.items }
-    ensures more { OnOk result ((feed : Feed) → AreSaid feed number height.now names.now →
+    ensures more { OnOk result ((feed : RunFeed) → AreSaid feed number height.now names.now →
         IsToldMore feed (places_at names.now number) told.old told.new) }
     ensures fits { OnOk result (told.new.missing ≤ length told.new.text.items) }
 {

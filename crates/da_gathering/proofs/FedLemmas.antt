@@ -5,10 +5,10 @@ use Rattle.std.specs.Option.{option_map_or}
 use Rattle.data_header.specs.Headers.{Roots}
 use Rattle.axis_roots.specs.declared.message.messages.Message.{Message}
 use Rattle.da_wire.specs.Reading.{Raw}
-use Rattle.da_wire.specs.Frames.{message_in}
+use Rattle.da_wire.specs.Frames.{raw_message}
 use Rattle.da_judging.specs.Check.{finding_of, is_ok}
 use Rattle.da_judging.specs.Repair.{messages_in, lies_in}
-use Rattle.da_gathering.specs.Fed.{samples_in}
+use Rattle.da_gathering.specs.Fed.{samples_there}
 
 -- ---- samples
 
@@ -18,17 +18,17 @@ onto None later more = refl
 onto (Some m) later more = refl
 
 -- the sample of one frame
-alone : (o : Option Message) → option_map_or (λ m. m ∷ []) o [] ≡ samples_in o
+alone : (o : Option Message) → option_map_or (λ m. m ∷ []) o [] ≡ samples_there o
 alone None = refl
 alone (Some m) = refl
 
 -- the samples with one frame more
-pub messages_more : (frames : List Raw) (frame : Raw) → messages_in (frames ++ frame ∷ []) ≡ messages_in frames ++ samples_in (message_in frame)
+pub messages_more : (frames : List Raw) (frame : Raw) → messages_in (frames ++ frame ∷ []) ≡ messages_in frames ++ samples_there (raw_message frame)
 unfolding messages_in
-messages_more [] frame = alone (message_in frame)
+messages_more [] frame = alone (raw_message frame)
 messages_more (first ∷ frames) frame =
-    ap (λ (l : List Message). option_map_or (λ m. m ∷ l) (message_in first) l) (messages_more frames frame)
-    ∙ onto (message_in first) (messages_in frames) (samples_in (message_in frame))
+    ap (λ (l : List Message). option_map_or (λ m. m ∷ l) (raw_message first) l) (messages_more frames frame)
+    ∙ onto (raw_message first) (messages_in frames) (samples_there (raw_message frame))
 
 -- ---- lies
 

@@ -8,20 +8,20 @@ use Rattle.axis_roots.specs.declared.message.messages.Message.{Message}
 use Rattle.axis_roots.specs.declared.message.messages.CheckRefusal.TheVariants.{OutOfSquare, NodeCount, Unordered, OtherRoot}
 use Rattle.repair_queue.specs.declared.fed.SessionState.TheVariants as state
 use Rattle.repair_queue.specs.Settled.{IsSettled}
-use Rattle.repair_queue.specs.SessionParts.{SessionParts, StandsFor}
-use Rattle.repair_queue.specs.Sessions.{state_of}
+use Rattle.repair_queue.specs.SessionParts.{SessionParts, SessionStands}
+use Rattle.repair_queue.specs.Sessions.{session_state}
 use Rattle.repair_queue.specs.Verdicts.{missing, IsVerdict}
 use Rattle.frame_payloads.specs.declared.refusals.Reason.{Reason}
 use Rattle.da_wire.specs.declared.frames.Frame.TheVariants as kinds
 use Rattle.da_wire.specs.Spelling.{spelling}
 use Rattle.da_wire.specs.Reading.{Raw}
-use Rattle.da_wire.specs.Frames.{message_in}
+use Rattle.da_wire.specs.Frames.{raw_message}
 use Rattle.da_judging.specs.declared.check.Finding.{Finding}
 use Rattle.da_judging.specs.declared.check.Finding.TheVariants as found
 use Rattle.da_judging.specs.Check.{finding_of, is_ok}
 use Rattle.da_judging.specs.Repair.{messages_in, lies_in}
-use Rattle.da_gathering.specs.Gatherings.{Gathering, IsOver}
-use Rattle.da_gathering.specs.Fed.{finding_by, samples_in}
+use Rattle.da_gathering.specs.Gatherings.{Gathering, IsSessionOver}
+use Rattle.da_gathering.specs.Fed.{finding_by, samples_there}
 use Rattle.da_talk.specs.Handed.{asks_state, fed}
 use Rattle.da_gathering.specs.Gathered.{HasGathered, reason_for, refusal_for, AreMissing, IsReplyBy, RepliesOn}
 use Rattle.da_talk.proofs.FedLemmas.{fed_asked, fed_other, fed_few}
@@ -53,12 +53,12 @@ session_is header frames g h s is = same_Some h.session s (sym h.is ∙ is)
 
 -- so it stands for the samples of the frames
 pub session_stands : (header : Roots) (frames : List Raw) (g : Gathering) → HasGathered header frames g → (s : SessionParts) → g.session ≡ Some s
-    → StandsFor s (messages_in (fed frames))
-session_stands header frames g h s is = subst (λ (t : SessionParts). StandsFor t (messages_in (fed frames))) (session_is header frames g h s is) h.stands
+    → SessionStands s (messages_in (fed frames))
+session_stands header frames g h s is = subst (λ (t : SessionParts). SessionStands t (messages_in (fed frames))) (session_is header frames g h s is) h.stands
 
 -- while it isn't over, cells are missing
-pub still_missing : Knows → ((s : SessionParts) (ms : List Message) → state_of s ≡ state.Open → StandsFor s ms → IsSettled s.header ms)
-    → (header : Roots) (frames : List Raw) (g : Gathering) → HasGathered header frames g → (s : SessionParts) → g.session ≡ Some s → IsOver false s
+pub still_missing : Knows → ((s : SessionParts) (ms : List Message) → session_state s ≡ state.Open → SessionStands s ms → IsSettled s.header ms)
+    → (header : Roots) (frames : List Raw) (g : Gathering) → HasGathered header frames g → (s : SessionParts) → g.session ≡ Some s → IsSessionOver false s
     → is_width g.header.k ≡ true → (cells : CellList) × AreMissing header frames cells
 still_missing knows settled header frames g h s is goes width =
     let same = session_is header frames g h s is in
@@ -77,14 +77,14 @@ gathered_asked header frames raw g new h asks same_header same_session same_lies
   session = h.session;
   is = same_session ∙ h.is;
   under = h.under;
-  stands = subst (λ (l : List Raw). StandsFor h.session (messages_in l)) (sym (fed_asked frames raw asks)) h.stands;
+  stands = subst (λ (l : List Raw). SessionStands h.session (messages_in l)) (sym (fed_asked frames raw asks)) h.stands;
   lies = same_lies ∙ h.lies ∙ sym (ap (lies_in header) (fed_asked frames raw asks));
 }
 
 -- and is told what is missing
 pub told_asked : (header : Roots) (frames : List Raw) (raw : Raw) (g : Gathering) → HasGathered header frames g → (s : SessionParts) → g.session ≡ Some s
     → asks_state raw ≡ true → (own : Roots) → own ≡ g.header → (text : List ℕ)
-    → ((ms : List Message) → StandsFor s ms → (cells : CellList) × IsVerdict own ms (missing cells) × (spelling (kinds.Missing cells) ≡ Some text))
+    → ((ms : List Message) → SessionStands s ms → (cells : CellList) × IsVerdict own ms (missing cells) × (spelling (kinds.Missing cells) ≡ Some text))
     → RepliesOn header frames raw text
 told_asked header frames raw g h s is asks own same text tells =
     let ms : List Message = messages_in (fed frames) in
@@ -97,31 +97,31 @@ told_asked header frames raw g h s is asks own same text tells =
 
 -- another one is fed, and counted where it is a lie
 pub gathered_fed : (header : Roots) (frames : List Raw) (raw : Raw) (g new : Gathering) → HasGathered header frames g → (s t : SessionParts) → g.session ≡ Some s
-    → asks_state raw ≡ false → new.header ≡ g.header → new.session ≡ Some t → t.header ≡ g.header → (sample : Option Message) → sample ≡ message_in raw
-    → ((ms : List Message) → StandsFor s ms → StandsFor t (ms ++ samples_in sample))
+    → asks_state raw ≡ false → new.header ≡ g.header → new.session ≡ Some t → t.header ≡ g.header → (sample : Option Message) → sample ≡ raw_message raw
+    → ((ms : List Message) → SessionStands s ms → SessionStands t (ms ++ samples_there sample))
     → new.lies ≡ g.lies + cond (is_ok (finding_of header raw)) 0 1 → HasGathered header (frames ++ raw ∷ []) new
 gathered_fed header frames raw g new h s t is other same_header now under sample read stands lies =
     let ms : List Message = messages_in (fed frames) in
-    let all : ms ++ samples_in sample ≡ messages_in (fed (frames ++ raw ∷ [])) =
-    ap (λ (o : Option Message). ms ++ samples_in o) read ∙ sym (messages_more (fed frames) raw) ∙ sym (ap (λ (l : List Raw). messages_in l) (fed_other frames raw other)) in
+    let all : ms ++ samples_there sample ≡ messages_in (fed (frames ++ raw ∷ [])) =
+    ap (λ (o : Option Message). ms ++ samples_there o) read ∙ sym (messages_more (fed frames) raw) ∙ sym (ap (λ (l : List Raw). messages_in l) (fed_other frames raw other)) in
     let count : lies_in header (fed (frames ++ raw ∷ [])) ≡ lies_in header (fed frames) + cond (is_ok (finding_of header raw)) 0 1 =
     ap (lies_in header) (fed_other frames raw other) ∙ lies_more header (fed frames) raw in record {
       header_is = same_header ∙ h.header_is;
       session = t;
       is = now;
       under = under ∙ h.header_is;
-      stands = subst (λ (l : List Message). StandsFor t l) all (stands ms (session_stands header frames g h s is));
+      stands = subst (λ (l : List Message). SessionStands t l) all (stands ms (session_stands header frames g h s is));
       lies = lies ∙ ap (λ (n : ℕ). n + cond (is_ok (finding_of header raw)) 0 1) h.lies ∙ sym count;
     }
 
 -- what was found of it, by its sample and the header that a repair has
-finding_is : (header : Roots) (raw : Raw) (own : Roots) (sample : Option Message) → own ≡ header → sample ≡ message_in raw
+finding_is : (header : Roots) (raw : Raw) (own : Roots) (sample : Option Message) → own ≡ header → sample ≡ raw_message raw
     → reason_for (finding_by own sample) ≡ reason_for (finding_of header raw)
 finding_is header raw own sample same read =
     ap (λ (r : Roots). reason_for (finding_by r sample)) same ∙ ap (λ (o : Option Message). reason_for (finding_by header o)) read
 
 -- where it was proved there are no more lies
-pub proved_lies : (header : Roots) (raw : Raw) (own : Roots) (sample : Option Message) (n : ℕ) → own ≡ header → sample ≡ message_in raw
+pub proved_lies : (header : Roots) (raw : Raw) (own : Roots) (sample : Option Message) (n : ℕ) → own ≡ header → sample ≡ raw_message raw
     → None ≡ reason_for (finding_by own sample) → n ≡ n + cond (is_ok (finding_of header raw)) 0 1
 proved_lies header raw own sample n same read none =
     let ok = proved_by (finding_of header raw) (none ∙ finding_is header raw own sample same read) in
@@ -129,7 +129,7 @@ proved_lies header raw own sample n same read none =
 
 -- and else one more, as their count can tell
 pub counted_lies : (header : Roots) (frames : List Raw) (raw : Raw) (g : Gathering) → HasGathered header frames g → (own : Roots) (sample : Option Message) (reason : Reason)
-    (number lies counted : ℕ) → own ≡ header → sample ≡ message_in raw → Some reason ≡ reason_for (finding_by own sample) → length frames ≡ number → number + 1 < 2 ^ 64
+    (number lies counted : ℕ) → own ≡ header → sample ≡ raw_message raw → Some reason ≡ reason_for (finding_by own sample) → length frames ≡ number → number + 1 < 2 ^ 64
     → lies ≡ g.lies → (lies + 1 < 2 ^ 64 → counted ≡ lies + 1) → counted ≡ g.lies + cond (is_ok (finding_of header raw)) 0 1
 counted_lies header frames raw g h own sample reason number lies counted same read some count few is counts =
     let no = lie_by (finding_of header raw) reason (some ∙ finding_is header raw own sample same read) in
@@ -139,7 +139,7 @@ counted_lies header frames raw g h own sample reason number lies counted same re
 
 -- the refusal of a lie is due, nothing of a proved sample
 pub refused_due : (header : Roots) (frames : List Raw) (raw : Raw) (own : Roots) (sample : Option Message) (reason : Option Reason) (number : ℕ) (text : List ℕ)
-    → asks_state raw ≡ false → own ≡ header → sample ≡ message_in raw → reason ≡ reason_for (finding_by own sample) → length frames ≡ number
+    → asks_state raw ≡ false → own ≡ header → sample ≡ raw_message raw → reason ≡ reason_for (finding_by own sample) → length frames ≡ number
     → text ≡ refusal_for reason number → IsReplyBy (asks_state raw) header frames raw text
 refused_due header frames raw own sample reason number text other same read is count made =
     subst (λ (b : Bool). IsReplyBy b header frames raw text) (sym other)

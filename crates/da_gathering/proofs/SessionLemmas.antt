@@ -16,17 +16,17 @@ use Rattle.axis_roots.specs.Openings.{IsProved}
 use Rattle.repair_queue.specs.declared.fed.SessionState.TheVariants as state
 use Rattle.repair_queue.specs.Closures.{Half, Covers}
 use Rattle.repair_queue.specs.Settled.{IsSettled}
-use Rattle.repair_queue.specs.SessionParts.{SessionParts, is_known, StandsFor}
-use Rattle.repair_queue.specs.Sessions.{state_of, AreLeft}
+use Rattle.repair_queue.specs.SessionParts.{SessionParts, is_known, SessionStands}
+use Rattle.repair_queue.specs.Sessions.{session_state, AreLeft}
 use Rattle.repair_queue.specs.Verdicts.{missing, IsVerdict}
-use Rattle.da_gathering.specs.Gatherings.{KnowsAll, IsOver}
+use Rattle.da_gathering.specs.Gatherings.{KnowsAll, IsSessionOver}
 use Rattle.da_gathering.proofs.LeftLemmas.{filter_keeps, filter_holds, filter_rises}
 
 -- ---- samples that aren't proved
 
 -- a session stands for samples more that aren't proved; by what is known of lists with the same proved samples
-pub stands_more : ((s : SessionParts) (ms others : List Message) → Covers s.header ms others → Covers s.header others ms → StandsFor s ms → StandsFor s others)
-    → (s : SessionParts) (ms more : List Message) → ((m : Message) → Contains more m → IsProved s.header m → ⊥) → StandsFor s ms → StandsFor s (ms ++ more)
+pub stands_more : ((s : SessionParts) (ms others : List Message) → Covers s.header ms others → Covers s.header others ms → SessionStands s ms → SessionStands s others)
+    → (s : SessionParts) (ms more : List Message) → ((m : Message) → Contains more m → IsProved s.header m → ⊥) → SessionStands s ms → SessionStands s (ms ++ more)
 stands_more law s ms more lies stand =
     law s ms (ms ++ more)
     (λ m at proved. Contains-append_left ms more m at)
@@ -40,19 +40,19 @@ stands_more law s ms more lies stand =
 
 -- what is known of an open session's cells
 abbrev pub Knows : Type 0
-Knows = (s : SessionParts) (ms : List Message) → state_of s ≡ state.Open → StandsFor s ms → (cell : Cell) → is_in_square s.header.k cell ≡ true
+Knows = (s : SessionParts) (ms : List Message) → session_state s ≡ state.Open → SessionStands s ms → (cell : Cell) → is_in_square s.header.k cell ≡ true
     → (is_known s cell ≡ true) ↔ Half s.header ms cell
 
 -- an open session is over exactly where all cells follow
-pub over_open : Knows → (s : SessionParts) (over : Bool) → state_of s ≡ state.Open → (ms : List Message) → StandsFor s ms
-    → (over ≡ true) ↔ ((cell : Cell) → is_in_square s.header.k cell ≡ true → Half s.header ms cell) → IsOver over s
+pub over_open : Knows → (s : SessionParts) (over : Bool) → session_state s ≡ state.Open → (ms : List Message) → SessionStands s ms
+    → (over ≡ true) ↔ ((cell : Cell) → is_in_square s.header.k cell ≡ true → Half s.header ms cell) → IsSessionOver over s
 over_open knows s true opened ms stand told = inr (λ cell within. (knows s ms opened stand cell within).1 (told.0 refl cell within))
 over_open knows s false opened ms stand told =
     (opened, λ all. true≢false (sym (told.1 (λ cell within. (knows s ms opened stand cell within).0 (all cell within)))))
 
 -- where some cell isn't recoverable an open session isn't over
-goes_by : Knows → (s : SessionParts) (ms : List Message) → state_of s ≡ state.Open → StandsFor s ms → (cells : List Cell) → cells ≢ []
-    → ((cell : Cell) → Contains cells cell → (is_in_square s.header.k cell ≡ true) × (Half s.header ms cell → ⊥)) → IsOver false s
+goes_by : Knows → (s : SessionParts) (ms : List Message) → session_state s ≡ state.Open → SessionStands s ms → (cells : List Cell) → cells ≢ []
+    → ((cell : Cell) → Contains cells cell → (is_in_square s.header.k cell ≡ true) × (Half s.header ms cell → ⊥)) → IsSessionOver false s
 goes_by knows s ms opened stand [] some out = absurd (some refl)
 goes_by knows s ms opened stand (cell ∷ cells) some out =
     let this = out cell (contains_head cell cells) in (opened, λ all. this.1 ((knows s ms opened stand cell this.0).0 (all cell this.0)))
@@ -61,15 +61,15 @@ goes_by knows s ms opened stand (cell ∷ cells) some out =
 pub fresh_goes : Knows
     → ((header : Roots) (ms : List Message) → is_width header.k ≡ true → ((m : Message) → Contains ms m → IsProved header m → ⊥)
     → IsVerdict header ms (missing (record { k = header.k; list = all_cells header.k })))
-    → (s : SessionParts) → is_width s.header.k ≡ true → state_of s ≡ state.Open → StandsFor s [] → IsOver false s
+    → (s : SessionParts) → is_width s.header.k ≡ true → session_state s ≡ state.Open → SessionStands s [] → IsSessionOver false s
 fresh_goes knows nothing s width opened stand =
     let left = nothing s.header [] width (λ m at proved. contains_none m at) in
     goes_by knows s [] opened stand (all_cells s.header.k) left.some (λ cell at. (left.missing cell).0 at)
 
 -- ---- missing cells
 
-module _ (knows : Knows) (settled : (s : SessionParts) (ms : List Message) → state_of s ≡ state.Open → StandsFor s ms → IsSettled s.header ms)
-    (s : SessionParts) (ms : List Message) (goes : IsOver false s) (stand : StandsFor s ms) where
+module _ (knows : Knows) (settled : (s : SessionParts) (ms : List Message) → session_state s ≡ state.Open → SessionStands s ms → IsSettled s.header ms)
+    (s : SessionParts) (ms : List Message) (goes : IsSessionOver false s) (stand : SessionStands s ms) where
   -- a cell that isn't recoverable isn't known
   unknown : (cell : Cell) → is_in_square s.header.k cell ≡ true → (Half s.header ms cell → ⊥) → is_known s cell ≡ false
   unknown cell within out = elim (cases_Bool (is_known s cell)) [

@@ -8,10 +8,10 @@ use Rattle.da_talk.specs.declared.talk_end.TalkEnd.{TalkEnd}
 use Rattle.da_talk.specs.declared.talk_end.TalkEnd.TheVariants.{Over, Decided, Bad, Unfit, ReadFailed, WriteFailed, TooLong, NoMemory}
 use Rattle.da_talk.specs.Told.{HasTold}
 use Rattle.da_talk.proofs.TellingLemmas.{RepliesAlike, talk_as}
-use Rattle.da_gathering.specs.Gathered.{GoesWith, gathering, Gathers}
+use Rattle.da_gathering.specs.Gathered.{GoesWith, gathering, GathersTalk}
 
 -- the status that goes with the last words is kept
-pub goes_with : {L : Type 0} (l : line.Ghosts L) (old new : L) (header : Roots) (kept : Option Status) (ended : TalkEnd) → Gathers l old new header kept ended → GoesWith ended kept
+pub goes_with : {L : Type 0} (l : line.Ghosts L) (old new : L) (header : Roots) (kept : Option Status) (ended : TalkEnd) → GathersTalk l old new header kept ended → GoesWith ended kept
 goes_with l old new header kept Over h = (h.end.due.status, h.end.due.kept_is, h.end.due.of)
 goes_with l old new header kept Decided h = (h.end.due.status, h.end.due.kept_is, h.end.due.of)
 goes_with l old new header kept (Bad at) h = tt
@@ -23,5 +23,5 @@ goes_with l old new header kept NoMemory h = h.end.takes
 
 -- what replies as a repair does, as the talk with it says it
 pub gathers : {T L : Type 0} {t : talker.Ghosts T} {l : line.Ghosts L} (old new : L) (first now : T) (ended : TalkEnd) → HasTold l t old new first now ended
-    → (header : Roots) (kept : Option Status) → RepliesAlike t (gathering header) first now kept kept → Gathers l old new header kept ended
+    → (header : Roots) (kept : Option Status) → RepliesAlike t (gathering header) first now kept kept → GathersTalk l old new header kept ended
 gathers {t = t} {l = l} old new first now ended h header kept alike = talk_as t (gathering header) first now kept kept alike l old new ended h

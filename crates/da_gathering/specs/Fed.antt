@@ -12,6 +12,6 @@ abbrev pub finding_by : Roots → Option Message → Finding
 finding_by header sample = option_map_or (λ m. option_map_or found.Refused (message_refusal header m) found.Proved) sample found.NoMessage
 
 -- the sample that there is, if there is one
-abbrev pub samples_in : Option Message → List Message
-samples_in None = []
-samples_in (Some m) = m ∷ []
+abbrev pub samples_there : Option Message → List Message
+samples_there None = []
+samples_there (Some m) = m ∷ []

@@ -3,7 +3,7 @@ use Rattle.std.specs.Prelude.{◌≡◌, ℕ, List, [], ◌∷◌, ◌++◌, len
 use Rattle.std.specs.List.{filter}
 use Rattle.namespace_id.specs.Cells.{CellList}
 use Rattle.data_header.specs.Headers.{Roots}
-use Rattle.repair_queue.specs.SessionParts.{SessionParts, StandsFor}
+use Rattle.repair_queue.specs.SessionParts.{SessionParts, SessionStands}
 use Rattle.repair_queue.specs.Verdicts.{missing, IsVerdict}
 use Rattle.frame_payloads.specs.kinds.Message.{most_message}
 use Rattle.frame_payloads.specs.declared.refusals.Reason.{Reason}
@@ -36,12 +36,12 @@ pub record HasGathered (header : Roots) (frames : List Raw) (g : Gathering) : Ty
   pub session : SessionParts
   pub is : g.session ≡ Some session
   pub under : session.header ≡ header
-  pub stands : StandsFor session (messages_in (fed frames))
+  pub stands : SessionStands session (messages_in (fed frames))
   pub lies : g.lies ≡ lies_in header (fed frames)
 
 -- a repair was fed with nothing yet
-abbrev pub IsFresh : Gathering → Type 0
-IsFresh g = HasGathered g.header [] g × (g.is_over ≡ false)
+abbrev pub IsFreshGathering : Gathering → Type 0
+IsFreshGathering g = HasGathered g.header [] g × (g.is_over ≡ false)
 
 -- ---- replies
 
@@ -91,13 +91,13 @@ pub record AreLastWords (header : Roots) (frames : List Raw) (more : Bool) (text
   pub kept_is : kept ≡ Some status
 
 -- a status is kept, that of missing cells or another
-abbrev pub Keeps : Bool → Option Status → Type 0
-Keeps more kept = (status : Status) × (kept ≡ Some status) × (is_missing status ≡ more)
+abbrev pub KeepsStatus : Bool → Option Status → Type 0
+KeepsStatus more kept = (status : Status) × (kept ≡ Some status) × (is_missing status ≡ more)
 
 -- the status that goes with the end of a talk: that of missing cells where the bytes were over, another where a frame ended it
 abbrev pub GoesWith : TalkEnd → Option Status → Type 0
-GoesWith ends.Over kept = Keeps true kept
-GoesWith ends.Decided kept = Keeps false kept
+GoesWith ends.Over kept = KeepsStatus true kept
+GoesWith ends.Decided kept = KeepsStatus false kept
 GoesWith (ends.Bad at) kept = ⊤
 GoesWith (ends.Unfit at) kept = ⊥
 GoesWith ends.ReadFailed kept = ⊤
@@ -125,8 +125,8 @@ gathering header = record {
 }
 
 -- a talk of a repair: what was said to its frames and when, how it ended, and the status that goes with its last words
-abbrev pub Gathers : {L : Type 0} → line.Ghosts L → L → L → Roots → Option Status → TalkEnd → Type 0
-Gathers l old new header kept ended = HasTold l (gathering header) old new kept kept ended
+abbrev pub GathersTalk : {L : Type 0} → line.Ghosts L → L → L → Roots → Option Status → TalkEnd → Type 0
+GathersTalk l old new header kept ended = HasTold l (gathering header) old new kept kept ended
 
 -- ---- what belongs to such talks
 

@@ -2,10 +2,10 @@
 
 ghost use Rattle.std.specs.Prelude.{◌≡◌, ◌++◌, List, IsSome};
 ghost use Rattle.axis_roots.specs.declared.message.messages.Message as sent;
-ghost use Rattle.repair_queue.specs.SessionParts.{StandsFor};
-ghost use Rattle.da_gathering.specs.Gatherings.{IsOver};
+ghost use Rattle.repair_queue.specs.SessionParts.{SessionStands};
+ghost use Rattle.da_gathering.specs.Gatherings.{IsSessionOver};
 ghost use Rattle.da_gathering.specs.Gathered.{reason_for};
-ghost use Rattle.da_gathering.specs.Fed.{finding_by, samples_in};
+ghost use Rattle.da_gathering.specs.Fed.{finding_by, samples_there};
 
 use axis_roots::{Message, message_law, message_laws};
 use da_talk::sample_reason;
@@ -22,8 +22,8 @@ pub(crate) fn feed(
     requires under { session.old.header ≡ header.now }
     ensures header { session.new.header ≡ header.now }
     ensures reason { result ≡ reason_for (finding_by header.now sample) }
-    ensures stands { (ms : List sent.Message) → StandsFor session.old ms →
-        StandsFor session.new (ms ++ samples_in sample) }
+    ensures stands { (ms : List sent.Message) → SessionStands session.old ms →
+        SessionStands session.new (ms ++ samples_there sample) }
     ensures kept { IsSome result → session.new ≡ session.old }
 {
     let Some(message) = sample else {
@@ -44,7 +44,7 @@ pub(crate) fn feed(
 
 /// Whether a session is over: it found a fraud proof or a collision, or all cells follow.
 pub(crate) fn is_over(session: &Session) -> bool
-    ensures { (ms : List sent.Message) → StandsFor session.now ms → IsOver result session.now }
+    ensures { (ms : List sent.Message) → SessionStands session.now ms → IsSessionOver result session.now }
 {
     session_laws();
     match session.state() {

@@ -1,7 +1,7 @@
 //! A repair that is fed frame by frame.
 
 ghost use Rattle.std.specs.Prelude.{◌≡◌, IfOk};
-ghost use Rattle.da_gathering.specs.Gathered.{IsFresh};
+ghost use Rattle.da_gathering.specs.Gathered.{IsFreshGathering};
 
 use da_status::Status;
 use data_header::Header;
@@ -28,13 +28,13 @@ pub struct Gatherer<'a> {
 
 impl<'a> Model for Gatherer<'a> {
     ghost use Rattle.std.specs.Prelude.{◌≡◌, IfSome};
-    ghost use Rattle.da_gathering.specs.Gatherings.{Gathering, IsSession};
+    ghost use Rattle.da_gathering.specs.Gatherings.{Gathering, IsGatheringSession};
 
     ghost Value = { Gathering };
 
     ghost view = { λ g. record { header = g.header.now; session = g.session; lies = g.lies; is_over = g.over; status = g.status } };
 
-    ghost invariant = { λ g. (g.room.k ≡ g.header.now.k) × IfSome g.session (IsSession g.header.now g.over) };
+    ghost invariant = { λ g. (g.room.k ≡ g.header.now.k) × IfSome g.session (IsGatheringSession g.header.now g.over) };
 }
 
 impl<'a> Gatherer<'a> {
@@ -42,7 +42,7 @@ impl<'a> Gatherer<'a> {
     /// none.
     pub fn new(alloc: Global, header: &'a Header) -> Result<Gatherer<'a>, NoMemory>
         ensures header { IfOk result (λ g. g.header ≡ header.now) }
-        ensures fresh { IfOk result IsFresh }
+        ensures fresh { IfOk result IsFreshGathering }
     {
         session_laws();
         verdict_laws();

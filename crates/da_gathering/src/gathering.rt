@@ -6,7 +6,7 @@ ghost use Rattle.da_io.specs.Faults.{count_on};
 ghost use Rattle.frame_payloads.specs.kinds.Message.{most_message};
 ghost use Rattle.da_talk.specs.Told.{last_heard, hear_count, say_count};
 ghost use Rattle.da_gathering.specs.Gatherings.{most_gathered};
-ghost use Rattle.da_gathering.specs.Gathered.{IsFresh, Gathers, GoesWith};
+ghost use Rattle.da_gathering.specs.Gathered.{IsFreshGathering, GathersTalk, GoesWith};
 
 use crate::Gatherer;
 use da_talk::{Line, TalkEnd, talk};
@@ -26,10 +26,10 @@ pub fn gather<'a, L: Line>(
     text: &mut Vec<u8>,
     line: &mut L,
 ) -> TalkEnd
-    requires fresh { IsFresh gatherer.old }
+    requires fresh { IsFreshGathering gatherer.old }
     requires room { 5 + most_message ≤ vec_capacity room.old }
     requires text { most_gathered gatherer.old.header.k ≤ vec_capacity text.old }
-    ensures talk { Gathers L.Line line.old line.new gatherer.old.header gatherer.new.status result }
+    ensures talk { GathersTalk L.Line line.old line.new gatherer.old.header gatherer.new.status result }
 
     // The status that goes with the last words is kept: that of missing cells where the bytes ended, another where a frame ended the talk.
     ensures status { GoesWith result gatherer.new.status }

@@ -4,9 +4,9 @@ ghost use Rattle.std.specs.Prelude.{◌≡◌, ◌≤◌, ◌<◌, [], List, len
 ghost use Rattle.namespace_id.specs.Cells.{is_width};
 ghost use Rattle.axis_roots.specs.declared.message.messages.Message as sent;
 ghost use Rattle.repair_queue.specs.Verdicts.{whole, missing, fraud, clash, IsVerdict};
-ghost use Rattle.repair_queue.specs.Answers.{parts_of};
+ghost use Rattle.repair_queue.specs.Answers.{verdict_parts};
 ghost use Rattle.frame_payloads.specs.kinds.Clash.{has_empty};
-ghost use Rattle.da_judging.specs.Repair.{Answers};
+ghost use Rattle.da_judging.specs.Repair.{GivesVerdict};
 ghost use Rattle.da_gathering.specs.Gatherings.{most_gathered};
 
 use axis_roots::FraudProof;
@@ -38,7 +38,7 @@ pub fn most_gathered(k: u16) -> usize
 fn put_whole(text: &mut Vec<u8>, square: &Square, lies: u64) -> Status
     requires empty { text.old.items ≡ [] }
     requires room { most_gathered square.now.k ≤ vec_capacity text.old }
-    ensures { Answers lies (whole square.now) text.new.items result }
+    ensures { GivesVerdict lies (whole square.now) text.new.items result }
 {
     shares_law(&square.shares);
     let _k = square.k;
@@ -52,7 +52,7 @@ fn put_missing(text: &mut Vec<u8>, cells: &Cells, lies: u64) -> Status
     requires empty { text.old.items ≡ [] }
     requires some { 0 < length cells.now.list }
     requires room { most_gathered cells.now.k ≤ vec_capacity text.old }
-    ensures { Answers lies (missing cells.now) text.new.items result }
+    ensures { GivesVerdict lies (missing cells.now) text.new.items result }
 {
     value_laws();
     let k = cells.k;
@@ -64,7 +64,7 @@ fn put_missing(text: &mut Vec<u8>, cells: &Cells, lies: u64) -> Status
 fn put_fraud(text: &mut Vec<u8>, proof: &FraudProof, lies: u64) -> Status
     requires empty { text.old.items ≡ [] }
     requires room { most_gathered (length proof.now.claim.cells) ≤ vec_capacity text.old }
-    ensures { Answers lies (fraud proof.now.claim) text.new.items result }
+    ensures { GivesVerdict lies (fraud proof.now.claim) text.new.items result }
 {
     proof_law(proof);
     put_head(text, b'B', proof_size(proof));
@@ -77,7 +77,7 @@ fn put_pair(text: &mut Vec<u8>, pair: &Clash, lies: u64) -> Status
     requires empty { text.old.items ≡ [] }
     requires full { has_empty pair.now ≡ false }
     requires room { most_gathered 1 ≤ vec_capacity text.old }
-    ensures { Answers lies (clash pair.now.left pair.now.right) text.new.items result }
+    ensures { GivesVerdict lies (clash pair.now.left pair.now.right) text.new.items result }
 {
     value_laws();
     let _left = pair.left().bytes();
@@ -95,9 +95,9 @@ pub(crate) fn put_verdict(
     lies: u64,
 ) -> Status
     requires empty { text.old.items ≡ [] }
-    requires verdict { (ms : List sent.Message) × IsVerdict header.now ms (parts_of verdict) }
+    requires verdict { (ms : List sent.Message) × IsVerdict header.now ms (verdict_parts verdict) }
     requires room { most_gathered header.now.k ≤ vec_capacity text.old }
-    ensures { Answers lies (parts_of verdict) text.new.items result }
+    ensures { GivesVerdict lies (verdict_parts verdict) text.new.items result }
 {
     let _k = header.k;
     match verdict {

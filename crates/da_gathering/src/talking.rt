@@ -3,14 +3,14 @@
 ghost use Rattle.std.specs.Prelude.{◌≡◌, ◌≢◌, ◌≤◌, ◌↔◌, [], List, Some, true, false, vec_capacity};
 ghost use Rattle.namespace_id.specs.Cells.{CellList};
 ghost use Rattle.axis_roots.specs.declared.message.messages.Message.{Message};
-ghost use Rattle.repair_queue.specs.SessionParts.{StandsFor};
+ghost use Rattle.repair_queue.specs.SessionParts.{SessionStands};
 ghost use Rattle.repair_queue.specs.Verdicts.{missing, IsVerdict};
 ghost use Rattle.frame_payloads.specs.kinds.Message.{most_message};
 ghost use Rattle.da_wire.specs.declared.frames.Frame.TheVariants as kinds;
 ghost use Rattle.da_wire.specs.Spelling.{spelling};
 ghost use Rattle.da_talk.specs.declared.talker.Turn.TheVariants as turn;
-ghost use Rattle.da_gathering.specs.Gatherings.{IsOver, most_gathered};
-ghost use Rattle.da_gathering.specs.Gathered.{IsFresh, HasGathered, RepliesOn, AreLastWords};
+ghost use Rattle.da_gathering.specs.Gatherings.{IsSessionOver, most_gathered};
+ghost use Rattle.da_gathering.specs.Gathered.{IsFreshGathering, HasGathered, RepliesOn, AreLastWords};
 
 use crate::Gatherer;
 use crate::feeding::{feed, is_over};
@@ -24,13 +24,13 @@ use repair_queue::{Session, session_laws};
 /// Writes the missing cells of a session that isn't over into an empty text.
 fn tell(header: &Header, session: &Session, room: &mut CellRoom, text: &mut Vec<u8>)
     requires under { session.now.header ≡ header.now }
-    requires stands { (ms : List Message) × StandsFor session.now ms }
-    requires goes { IsOver false session.now }
+    requires stands { (ms : List Message) × SessionStands session.now ms }
+    requires goes { IsSessionOver false session.now }
     requires room { room.old.k ≡ header.now.k }
     requires empty { text.old.items ≡ [] }
     requires fits { most_gathered header.now.k ≤ vec_capacity text.old }
     ensures width { room.new.k ≡ room.old.k }
-    ensures missing { (ms : List Message) → StandsFor session.now ms → (cells : CellList)
+    ensures missing { (ms : List Message) → SessionStands session.now ms → (cells : CellList)
         × IsVerdict header.now ms (missing cells) × (spelling (kinds.Missing cells) ≡ Some text.new.items) }
     ensures capacity { vec_capacity text.old ≤ vec_capacity text.new }
 {
@@ -52,7 +52,7 @@ fn turn_of(over: bool) -> Turn
 impl<'a> Talker for Gatherer<'a> {
     ghost use Rattle.std.specs.Prelude.{◌≡◌, [], true, false};
 
-    ghost is_fresh = { IsFresh };
+    ghost is_fresh = { IsFreshGathering };
 
     ghost led = { λ first now frames. HasGathered first.header frames now };
 

@@ -4,7 +4,7 @@ use Rattle.std.specs.Prelude.{IfSome, IsNone}
 use Rattle.namespace_id.specs.declared.digests.Digest.{Digest}
 use Rattle.nmt_tree.specs.Queues.{QueuedLeaves, queued, no_leaves}
 use Rattle.da_wire.specs.Reading.{Raw}
-use Rattle.da_judging.specs.Ahead.{IsShownBy, AreAhead, IsNextAhead}
+use Rattle.da_judging.specs.Ahead.{IsLeafDigestOf, AreAhead, IsNextAhead}
 
 -- no digests are ahead
 pub none_ahead : (k : ℕ) (frames : List Raw) → AreAhead k [] frames
@@ -16,7 +16,7 @@ pub new_ahead : (k : ℕ) (queue : QueuedLeaves) (frames : List Raw) → queue �
 new_ahead k queue frames none = subst (λ (q : QueuedLeaves). AreAhead k (queued q) frames) (sym none) (none_ahead k frames)
 
 -- the digest of a leaf in front of those of the leaves that the frames behind it show
-pub one_ahead : (k : ℕ) (digest : Digest) (digests : List Digest) (frame : Raw) (frames : List Raw) → IsShownBy k digest frame → AreAhead k digests frames → AreAhead k (digest ∷ digests) (frame ∷ frames)
+pub one_ahead : (k : ℕ) (digest : Digest) (digests : List Digest) (frame : Raw) (frames : List Raw) → IsLeafDigestOf k digest frame → AreAhead k digests frames → AreAhead k (digest ∷ digests) (frame ∷ frames)
 unfolding AreAhead
 one_ahead k digest digests frame frames shown ahead = (shown, ahead)
 
@@ -30,7 +30,7 @@ leads_first k before all none more ahead = subst (λ (l : List Digest). AreAhead
 
 -- and one more leaf that waits gives one more
 pub leads_on : (k : ℕ) (old new : QueuedLeaves) (digest : Digest) (frame : Raw) (rest after all : List Raw) → Leads k (queued old) rest all → rest ≡ frame ∷ after
-    → new.ready ≡ old.ready → new.waiting ≡ old.waiting ++ digest ∷ [] → IsShownBy k digest frame → Leads k (queued new) after all
+    → new.ready ≡ old.ready → new.waiting ≡ old.waiting ++ digest ∷ [] → IsLeafDigestOf k digest frame → Leads k (queued new) after all
 leads_on k old new digest frame rest after all so_far next ready waiting shown more ahead =
     let longer : queued new ≡ queued old ++ digest ∷ [] = ap₂ (λ (x y : List Digest). x ++ y) ready waiting ∙ sym (append_assoc old.ready old.waiting (digest ∷ [])) in
     let joined : queued new ++ more ≡ queued old ++ (digest ∷ more) = ap (λ (l : List Digest). l ++ more) longer ∙ append_assoc (queued old) (digest ∷ []) more in
@@ -50,12 +50,12 @@ taken_ahead k None old new frames ahead first empty = empty refl
 taken_ahead k (Some digest) old new frames ahead first empty = subst (λ (l : List Digest). AreAhead k l frames) first ahead
 
 -- the first frame shows the leaf of which the digest comes first
-front_shown : (k : ℕ) (digest : Digest) (digests : List Digest) (frame : Raw) (frames : List Raw) → AreAhead k (digest ∷ digests) (frame ∷ frames) → IsShownBy k digest frame × AreAhead k digests frames
+front_shown : (k : ℕ) (digest : Digest) (digests : List Digest) (frame : Raw) (frames : List Raw) → AreAhead k (digest ∷ digests) (frame ∷ frames) → IsLeafDigestOf k digest frame × AreAhead k digests frames
 unfolding AreAhead
 front_shown k digest digests frame frames ahead = ahead
 
 pub next_shown : (k : ℕ) (leaf : Option Digest) (digests : List Digest) (frames : List Raw) (frame : Raw) (after : List Raw) → IsNextAhead k leaf digests frames → frames ≡ frame ∷ after
-    → IfSome leaf (λ digest. IsShownBy k digest frame)
+    → IfSome leaf (λ digest. IsLeafDigestOf k digest frame)
 next_shown k None digests frames frame after ahead next = tt
 next_shown k (Some digest) digests frames frame after ahead next = (front_shown k digest digests frame after (subst (AreAhead k (digest ∷ digests)) next ahead)).0
 

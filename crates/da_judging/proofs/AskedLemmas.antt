@@ -21,7 +21,7 @@ use Rattle.da_judging.specs.declared.answers.Answer.{Answer}
 use Rattle.da_judging.specs.declared.answers.Answer.TheVariants.{Message, Names, Fraud, Commit, Rooted}
 use Rattle.da_judging.specs.declared.answers.Request.{Request}
 use Rattle.da_judging.specs.declared.answers.Request.TheVariants as asked
-use Rattle.da_judging.specs.Answers.{answer_frame, answer_of, request_of, is_of_cell, is_sample, is_for, is_answer_to, Samples, Tells, IsAnswerTo}
+use Rattle.da_judging.specs.Answers.{answer_frame, answer_of, request_of, is_of_cell, is_sample, is_for, is_answer_to, Samples, IsAnswerFor, IsAnswerTo}
 use Rattle.da_judging.specs.Verify.{answer_kinds, answer_in}
 use Rattle.da_judging.specs.VerifyFor.{request_kinds}
 use Rattle.da_files.proofs.FileLemmas.{single_value, value_single}
@@ -111,7 +111,7 @@ sample_is cell axis (Commit proof) = (λ e. absurd cc, λ h. absurd h)
 sample_is cell axis (Rooted proof) = of_cell cell axis proof.message
 
 -- an answer is for a namespace exactly where it is a namespace answer with it
-for_is : (name : names.Namespace) (answer : Answer) → (is_for name answer ≡ true) ↔ Tells name answer
+for_is : (name : names.Namespace) (answer : Answer) → (is_for name answer ≡ true) ↔ IsAnswerFor name answer
 for_is name (Message m) = (λ e. absurd cc, λ h. absurd h)
 for_is name (Names other answer) = (
   λ e. ap (λ (l : List ℕ). record { 0 = l }) ((bytes_eq-Decides other.0 name.0).0 e),

@@ -17,21 +17,21 @@ use Rattle.frame_fields.specs.Messages.{message_at}
 use Rattle.da_wire.specs.Laws.{MessageIsSpelled}
 use Rattle.std.specs.declared.option.Option.{Option}
 use Rattle.data_header.specs.Headers.{Roots, AreRoots}
-use Rattle.da_wire.specs.Frames.{frames_of, message_in}
+use Rattle.da_wire.specs.Frames.{frames_of, raw_message}
 use Rattle.da_status.specs.declared.status.Status.{Status}
 use Rattle.da_judging.specs.declared.check.Finding.{Finding}
 use Rattle.da_judging.specs.declared.check.Finding.TheVariants.{Proved, NoMessage, Refused}
-use Rattle.da_status.specs.Statuses.{kind_of, output}
+use Rattle.da_status.specs.Statuses.{status_kind, output}
 use Rattle.da_files.specs.Frames.{header_in}
-use Rattle.da_judging.specs.Check.{IsProvedFrame, IsOwnFrame, finding_of, line_of, is_ok, lines_of, are_ok, status_of_lines, Lists, CheckOf}
+use Rattle.da_judging.specs.Check.{IsProvedFrame, IsOwnFrame, finding_of, line_of, is_ok, check_lines, are_ok, status_of_lines, Lists, CheckOf}
 use Rattle.da_files.specs.Contents.{header_file, messages_file}
 use Rattle.da_files.proofs.FormLemmas.{over_each}
 
 -- the next frame's line comes next
 pub next_line : (h : Roots) (rest after line : List ℕ) (frame : Raw) (finding : Finding) → frames_of rest ≡ frame ∷ frames_of after
-    → finding ≡ finding_of h frame → line ≡ line_of finding → lines_of h (frames_of rest) ≡ line ++ lines_of h (frames_of after)
+    → finding ≡ finding_of h frame → line ≡ line_of finding → check_lines h (frames_of rest) ≡ line ++ check_lines h (frames_of after)
 next_line h rest after line frame finding frames found shown =
-    ap (lines_of h) frames ∙ ap (λ (l : List ℕ). l ++ lines_of h (frames_of after)) (sym (shown ∙ ap line_of found))
+    ap (check_lines h) frames ∙ ap (λ (l : List ℕ). l ++ check_lines h (frames_of after)) (sym (shown ∙ ap line_of found))
 
 -- whether all are proved, with the next frame
 pub next_ok : (h : Roots) (rest after : List ℕ) (frame : Raw) (finding : Finding) (so_far ok : Bool) → frames_of rest ≡ frame ∷ frames_of after
@@ -43,19 +43,19 @@ next_ok h rest after frame finding so_far ok frames found tested =
     ap (λ (b : Bool). so_far && b) here ∙ sym (and_assoc so_far ok (are_ok h (frames_of after)))
 
 -- an answer comes with its output
-status-kind : (all_ok : Bool) → kind_of (status_of_lines all_ok) ≡ output
+status-kind : (all_ok : Bool) → status_kind (status_of_lines all_ok) ≡ output
 status-kind true = refl
 status-kind false = refl
 
 -- lines come with the status of a complete output
-pub lists_last : (h : Roots) (frames : List Raw) (w : List ℕ) (status : Status) → Lists h frames w status → kind_of status ≡ output
-lists_last h frames w status l = ap kind_of l.1 ∙ status-kind _
+pub lists_last : (h : Roots) (frames : List Raw) (w : List ℕ) (status : Status) → Lists h frames w status → status_kind status ≡ output
+lists_last h frames w status l = ap status_kind l.1 ∙ status-kind _
 
 -- what check answers comes with a complete output
-pub check_last : (files : List (List ℕ)) (w : List ℕ) (status : Status) → CheckOf files w status → kind_of status ≡ output
+pub check_last : (files : List (List ℕ)) (w : List ℕ) (status : Status) → CheckOf files w status → status_kind status ≡ output
 check_last files w status l =
     let frames = frames_of (messages_file files) in
-    over_each (λ h. Lists h frames) (header_in (header_file files)) w status (kind_of status ≡ output) (λ h. lists_last h frames w status) l
+    over_each (λ h. Lists h frames) (header_in (header_file files)) w status (status_kind status ≡ output) (λ h. lists_last h frames w status) l
 
 -- ---- `ok`
 
@@ -84,9 +84,9 @@ pub finding_proved : (header : Roots) (frame : Raw) → MessageIsSpelled
     → ((h : Roots) (m : sent.Message) → AreRoots h → IsMessage m → (message_refusal h m ≡ None) ↔ IsProved h m)
     → AreRoots header → AreBytes frame.payload → (finding_of header frame ≡ Proved) ↔ IsProvedFrame header frame
 finding_proved header frame spelled refusal roots bytes =
-    let sized : (m : sent.Message) → message_in frame ≡ Some m → IsMessage m
+    let sized : (m : sent.Message) → raw_message frame ≡ Some m → IsMessage m
     = λ m e. (spelled frame.payload m bytes (in_grammar (frame.kind == message_kind) (message_at frame.payload) m e)).0 in (
-      λ e. let r = by_message header (message_in frame) e in (r.0, r.1, (refusal header r.0 roots (sized r.0 r.1)).0 r.2),
+      λ e. let r = by_message header (raw_message frame) e in (r.0, r.1, (refusal header r.0 roots (sized r.0 r.1)).0 r.2),
       λ p. ap (finding_by header) p.1 ∙ ap (λ (o : Option CheckRefusal). option_map_or Refused o Proved) ((refusal header p.0 roots (sized p.0 p.1)).1 p.2),
     )
 

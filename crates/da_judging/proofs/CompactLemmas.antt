@@ -10,13 +10,13 @@ use Rattle.axis_roots.specs.Claims.{ClaimParts, Accepts, IsFalseClaim}
 use Rattle.befp_verify.specs.declared.verifying.FraudRefusal.{FraudRefusal}
 use Rattle.befp_verify.specs.declared.compacting.Compacted.{Compacted}
 use Rattle.befp_verify.specs.declared.compacting.Compacted.TheVariants as made
-use Rattle.befp_verify.specs.Refusals.{HasCause}
+use Rattle.befp_verify.specs.Refusals.{HasFraudCause}
 use Rattle.befp_verify.specs.Compacting.{IsCompacted, NamesTwo}
 use Rattle.frame_payloads.specs.kinds.Clash.{has_empty}
 use Rattle.frame_payloads.specs.kinds.Fraud.{is_unwritten}
 use Rattle.frame_payloads.proofs.AcceptedClaims.{accepted_written}
 use Rattle.da_status.specs.declared.status.Status.{Status}
-use Rattle.da_status.specs.Statuses.{kind_of, output}
+use Rattle.da_status.specs.Statuses.{status_kind, output}
 use Rattle.da_status.specs.Judging.{first_bad, Judged}
 use Rattle.da_files.specs.Frames.{header_in, error_of}
 use Rattle.da_files.specs.Forms.{single_judged, under_judged, Over}
@@ -45,19 +45,19 @@ module _ (files : List (List ℕ)) (fine : first_bad 0 (single_judged header_in 
       (header_in (header_file files)) header (by_second (Ok claim) reads) read
 
 -- what a claim was made into is a complete output
-made_kind : (one : Compacted) → kind_of (made_status one) ≡ output
+made_kind : (one : Compacted) → status_kind (made_status one) ≡ output
 made_kind (made.Claim claim) = refl
 made_kind (made.Clash clash) = refl
 
 -- so is what is written for a claim
-judged_kind : (header : Roots) (claim : ClaimParts) (why : Option FraudRefusal) (w : List ℕ) (status : Status) → CompactsBy header claim why w status → kind_of status ≡ output
-judged_kind header claim None w status h = ap kind_of h.2.1 ∙ made_kind h.0
-judged_kind header claim (Some why) w status h = ap kind_of h.1
+judged_kind : (header : Roots) (claim : ClaimParts) (why : Option FraudRefusal) (w : List ℕ) (status : Status) → CompactsBy header claim why w status → status_kind status ≡ output
+judged_kind header claim None w status h = ap status_kind h.2.1 ∙ made_kind h.0
+judged_kind header claim (Some why) w status h = ap status_kind h.1
 
 -- what compact answers comes with a complete output
-pub compact_last : (files : List (List ℕ)) (w : List ℕ) (status : Status) → CompactOf files w status → kind_of status ≡ output
+pub compact_last : (files : List (List ℕ)) (w : List ℕ) (status : Status) → CompactOf files w status → status_kind status ≡ output
 compact_last files w status h =
-    let Complete : Type 0 = kind_of status ≡ output in
+    let Complete : Type 0 = status_kind status ≡ output in
     over_each (λ header. Over (claim_in (claim_file files)) (λ claim. CompactsJudged header claim)) (header_in (header_file files)) w status Complete
     (λ header. over_each (λ claim. CompactsJudged header claim) (claim_in (claim_file files)) w status Complete
     (λ claim made. judged_kind header claim made.0 w status made.2)) h
@@ -81,6 +81,6 @@ pub compacts_own : ((h : Roots) (claim : ClaimParts) → Accepts h claim → IsF
     → IsHeaderOf header square → CompactsJudged header claim w status → CompactsOwn claim square status
 compacts_own accused header claim square w status of h = by_cause h.0 h.1 h.2
   where
-    by_cause : (why : Option FraudRefusal) → HasCause header claim why → CompactsBy header claim why w status → CompactsOwn claim square status
+    by_cause : (why : Option FraudRefusal) → HasFraudCause header claim why → CompactsBy header claim why w status → CompactsOwn claim square status
     by_cause None accepts made done = accused header claim accepts square of
     by_cause (Some why) cause told done = absurd (done told.1)

@@ -19,13 +19,13 @@ use Rattle.da_wire.specs.Frames.{frames_of, bad_frame}
 use Rattle.da_status.specs.declared.status.Asked.TheVariants.{Count}
 use Rattle.da_status.specs.declared.status.Status.{Status}
 use Rattle.da_status.specs.declared.status.Status.TheVariants.{BadRequest}
-use Rattle.da_status.specs.Statuses.{kind_of, output}
+use Rattle.da_status.specs.Statuses.{status_kind, output}
 use Rattle.da_status.specs.Outcome.{Relation}
 use Rattle.da_status.specs.Judging.{first_bad, Judged}
 use Rattle.da_files.specs.Frames.{header_in, error_of}
 use Rattle.da_files.specs.Forms.{messages_judged}
 use Rattle.da_judging.specs.Keys.{key_file_in}
-use Rattle.da_judging.specs.Light.{events_in, Answers, Judges, HasOutput, Counted, Lights, JudgesOwn, LightOf, light_key_file, light_by_judged, LightByOf}
+use Rattle.da_judging.specs.Light.{events_in, GivesLight, Judges, HasOutput, Counted, Lights, JudgesOwn, LightOf, light_key_file, light_by_judged, LightByOf}
 use Rattle.da_files.specs.Contents.{header_file, messages_file}
 use Rattle.da_status.proofs.EndLemmas.{IsAnswer, answer_output, status_answers}
 use Rattle.da_files.proofs.FormLemmas.{third_bad, over_is, judged_over, over_each}
@@ -50,25 +50,25 @@ lights_within key count header raws within =
 -- ---- answers
 
 -- each verdict comes with a complete output
-verdict_kind : (verdict : Light) (w : List ℕ) (status : Status) → Answers verdict w status → kind_of status ≡ output
-verdict_kind light.Available w status answers = ap kind_of answers.1
-verdict_kind (light.Rejected claim) w status answers = ap kind_of answers.1
-verdict_kind (light.Waiting cells) w status answers = ap kind_of answers.1
+verdict_kind : (verdict : Light) (w : List ℕ) (status : Status) → GivesLight verdict w status → status_kind status ≡ output
+verdict_kind light.Available w status answers = ap status_kind answers.1
+verdict_kind (light.Rejected claim) w status answers = ap status_kind answers.1
+verdict_kind (light.Waiting cells) w status answers = ap status_kind answers.1
 
 -- what is answered to a count is an answer
 limit_answers : (over : Bool) (header : Roots) (plan : List Cell) (raws : List Raw) (w : List ℕ) (status : Status)
     → by_limit over header plan raws w status
-    → IsAnswer (kind_of status)
+    → IsAnswer (status_kind status)
 limit_answers true header plan raws w status h = status_answers status (BadRequest Count) h.1 tt
 limit_answers false header plan raws w status h = answer_output status (verdict_kind h.0 w status h.2)
 
 -- what light answers to its files is an answer
 pub light_answers : (key : List ℕ) (count : ℕ) (files : List (List ℕ)) (w : List ℕ) (status : Status)
     → LightOf key count files w status
-    → IsAnswer (kind_of status)
+    → IsAnswer (status_kind status)
 light_answers key count files w status r =
     let raws = frames_of (messages_file files) in
-    over_each (λ h. Lights key count h raws) (header_in (header_file files)) w status (IsAnswer (kind_of status))
+    over_each (λ h. Lights key count h raws) (header_in (header_file files)) w status (IsAnswer (status_kind status))
     (λ h. limit_answers (nat_lt (draw_limit h.k) count) h (drawn_cells key h.k count) raws w status) r
 
 -- a verdict under a header of a width has an output
@@ -83,7 +83,7 @@ verdict_output header plan events (light.Waiting cells) width is = is.1
 pub lights_verdict : (key : List ℕ) (count : ℕ) (header : Roots) (plan : List Cell) (raws : List Raw) (verdict : Light)
     → (draw_limit header.k < count → ⊥) → plan ≡ drawn_cells key header.k count
     → IsLight header plan (events_in raws) verdict
-    → (w : List ℕ) (status : Status) → Answers verdict w status → Lights key count header raws w status
+    → (w : List ℕ) (status : Status) → GivesLight verdict w status → Lights key count header raws w status
 lights_verdict key count header plan raws verdict within drawn is w status answers =
     let judged : Judges header (drawn_cells key header.k count) raws w status =
     (verdict, subst (λ (cells : List Cell). IsLight header cells (events_in raws) verdict) drawn is, answers) in
@@ -96,7 +96,7 @@ lights_verdict key count header plan raws verdict within drawn is w status answe
 verdict_own : ((h : Roots) (claim : ClaimParts) → Accepts h claim → IsFalseClaim h claim)
     → (header : Roots) (square : SquareShares) (plan : List Cell) (events : List Event) (verdict : Light) (w : List ℕ)
     (status : Status)
-    → IsHeaderOf header square → IsLight header plan events verdict → Answers verdict w status
+    → IsHeaderOf header square → IsLight header plan events verdict → GivesLight verdict w status
     → JudgesOwn square w status
 verdict_own law header square plan events light.Available w status own is answers = inl (λ axis i e. absurd cc)
 verdict_own law header square plan events (light.Waiting cells) w status own is answers = inl (λ axis i e. absurd cc)
@@ -151,7 +151,7 @@ module _ (files : List (List ℕ)) (fine : first_bad 0 (messages_judged files) �
 -- what light answers to a key in a file is an answer
 pub light_by_answers : (count : ℕ) (files : List (List ℕ)) (w : List ℕ) (status : Status)
     → LightByOf count files w status
-    → IsAnswer (kind_of status)
+    → IsAnswer (status_kind status)
 light_by_answers count files w status r =
-    over_each (λ key. LightOf key count files) (key_file_in (light_key_file files)) w status (IsAnswer (kind_of status))
+    over_each (λ key. LightOf key count files) (key_file_in (light_key_file files)) w status (IsAnswer (status_kind status))
     (λ key. light_answers key count files w status) r

@@ -9,7 +9,7 @@ use Rattle.axis_roots.specs.declared.message.messages.Message as sent
 use Rattle.axis_roots.specs.Messages.{IsMessage}
 use Rattle.da_wire.specs.Reading.{Raw}
 use Rattle.da_wire.specs.Spelling.{message_kind}
-use Rattle.da_wire.specs.Frames.{message_in}
+use Rattle.da_wire.specs.Frames.{raw_message}
 use Rattle.frame_fields.specs.Messages.{message_at}
 use Rattle.da_wire.specs.Laws.{MessageIsSpelled}
 use Rattle.da_judging.specs.Repair.{messages_in}
@@ -27,6 +27,6 @@ pub messages_fit : MessageIsSpelled → (frames : List Raw) → AllByRecursion (
 unfolding messages_in
 messages_fit spelled [] fits = tt
 messages_fit spelled (frame ∷ later) fits =
-    messages_on (message_in frame) (messages_in later)
+    messages_on (raw_message frame) (messages_in later)
     (λ m e. (spelled frame.payload m fits.0 (in_grammar (frame.kind == message_kind) (message_at frame.payload) m e)).0)
     (messages_fit spelled later fits.1)

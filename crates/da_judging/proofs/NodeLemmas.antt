@@ -5,7 +5,7 @@ use Rattle.std.specs.Option.{option_map_or}
 use Rattle.std.proofs.Math.Seq.{append_snoc}
 use Rattle.namespace_id.specs.declared.cells.Cell.{Cell}
 use Rattle.light_node.specs.declared.events.Event.{Event}
-use Rattle.light_node.specs.Nodes.{NodeParts, StandsFor, IsSame}
+use Rattle.light_node.specs.Nodes.{NodeParts, NodeStands, IsSameNode}
 use Rattle.da_wire.specs.Reading.{Raw}
 use Rattle.da_judging.specs.Light.{event_in, events_in}
 
@@ -29,14 +29,14 @@ events_by rest after frame next = ap events_in next
 module _ {F : Type 0} (picks : F → ℕ → Cell → Type 0) (old : NodeParts F) (frames : List Raw) where
   -- a node that planned these cells and was handed nothing was handed all events but those of the rest since
   abbrev pub Handed : NodeParts F → List Raw → Type 0
-  Handed node rest = (plan : List Cell) → StandsFor picks old plan []
-      → (done : List Event) × StandsFor picks node plan done × (events_in frames ≡ done ++ events_in rest)
+  Handed node rest = (plan : List Cell) → NodeStands picks old plan []
+      → (done : List Event) × NodeStands picks node plan done × (events_in frames ≡ done ++ events_in rest)
 
   -- the next frame is an event
   pub handed_on : (node new : NodeParts F) (rest after : List Raw) (frame : Raw) (event : Event) → rest ≡ frame ∷ after
       → event_in frame ≡ Some event
-      → ((plan : List Cell) (events : List Event) → StandsFor picks node plan events
-      → StandsFor picks new plan (events ++ event ∷ []))
+      → ((plan : List Cell) (events : List Event) → NodeStands picks node plan events
+      → NodeStands picks new plan (events ++ event ∷ []))
       → Handed node rest → Handed new after
   handed_on node new rest after frame event next here step handed = λ plan stands.
       let so_far = handed plan stands in
@@ -58,16 +58,16 @@ module _ {F : Type 0} (picks : F → ℕ → Cell → Type 0) (old : NodeParts F
 
   -- all frames were handed over
   pub handed_all : (node : NodeParts F) (rest : List Raw) → rest ≡ [] → Handed node rest
-      → (plan : List Cell) → StandsFor picks old plan [] → StandsFor picks node plan (events_in frames)
+      → (plan : List Cell) → NodeStands picks old plan [] → NodeStands picks node plan (events_in frames)
   unfolding events_in
   handed_all node rest none handed plan stands =
       let so_far = handed plan stands in
       let all : events_in frames ≡ so_far.0 = so_far.2 ∙ ap (λ (l : List Raw). so_far.0 ++ events_in l) none
       ∙ append-nil so_far.0 in
-      subst (StandsFor picks node plan) (sym all) so_far.1
+      subst (NodeStands picks node plan) (sym all) so_far.1
 
 -- what no call changes stays over two of them
-pub same_on : {F : Type 0} (a b d : NodeParts F) → IsSame a b → IsSame b d → IsSame a d
+pub same_on : {F : Type 0} (a b d : NodeParts F) → IsSameNode a b → IsSameNode b d → IsSameNode a d
 same_on a b d one two = record {
   header = two.header ∙ one.header;
   limit = two.limit ∙ one.limit;

@@ -12,19 +12,19 @@ use Rattle.axis_roots.specs.Grids.{IsHeaderOf}
 use Rattle.repair_queue.specs.declared.verdict.Verdict.{Verdict}
 use Rattle.repair_queue.specs.Closures.{Covers}
 use Rattle.repair_queue.specs.Verdicts.{VerdictParts, whole, missing, fraud, clash, IsVerdict, IsOwnVerdict}
-use Rattle.repair_queue.specs.Answers.{parts_of, SomeNames}
+use Rattle.repair_queue.specs.Answers.{verdict_parts, SomeNames}
 use Rattle.frame_payloads.specs.kinds.Clash.{has_empty}
 use Rattle.da_wire.specs.Reading.{Raw}
 use Rattle.da_wire.specs.Frames.{frames_of, bad_frame}
 use Rattle.da_wire.specs.Laws.{MessageIsSpelled}
 use Rattle.da_status.specs.declared.status.Status.{Status}
 use Rattle.da_status.specs.declared.status.Status.TheVariants.{BadInput}
-use Rattle.da_status.specs.Statuses.{kind_of, output}
+use Rattle.da_status.specs.Statuses.{status_kind, output}
 use Rattle.da_status.specs.Outcome.{Relation, Refuses}
 use Rattle.da_status.specs.Judging.{Judged}
 use Rattle.da_files.specs.Frames.{header_in, error_of}
 use Rattle.da_files.specs.Forms.{Over, messages_judged}
-use Rattle.da_judging.specs.Repair.{messages_in, lies_in, answer_status, Answers, Repairs, RepairsOwn, RepairOf}
+use Rattle.da_judging.specs.Repair.{messages_in, lies_in, answer_status, GivesVerdict, Repairs, RepairsOwn, RepairOf}
 use Rattle.da_files.specs.Contents.{header_file, messages_file}
 use Rattle.da_files.proofs.FormLemmas.{over_each}
 use Rattle.da_judging.proofs.MessageLemmas.{messages_fit}
@@ -53,39 +53,39 @@ pub repair_header : (files : List (List ℕ)) (at : ℕ) → header_in (header_f
 repair_header files at read = sym (ap (λ (a : Result Roots ℕ). repair_by files a (bad_frame (messages_file files))) read)
 
 -- each answer comes with a complete output
-answer_kind : (lies : ℕ) (verdict : VerdictParts) → kind_of (answer_status lies verdict) ≡ output
+answer_kind : (lies : ℕ) (verdict : VerdictParts) → status_kind (answer_status lies verdict) ≡ output
 answer_kind lies (whole square) = refl
 answer_kind lies (missing cells) = refl
 answer_kind lies (fraud claim) = refl
 answer_kind lies (clash left right) = refl
 
 -- what repair answers comes with a complete output
-pub repair_last : (files : List (List ℕ)) (w : List ℕ) (status : Status) → RepairOf files w status → kind_of status ≡ output
+pub repair_last : (files : List (List ℕ)) (w : List ℕ) (status : Status) → RepairOf files w status → status_kind status ≡ output
 repair_last files w status r =
     let raws = frames_of (messages_file files) in
-    over_each (λ h. Repairs h raws) (header_in (header_file files)) w status (kind_of status ≡ output)
-    (λ h repaired. ap kind_of repaired.2.1 ∙ answer_kind (lies_in h raws) repaired.0) r
+    over_each (λ h. Repairs h raws) (header_in (header_file files)) w status (status_kind status ≡ output)
+    (λ h repaired. ap status_kind repaired.2.1 ∙ answer_kind (lies_in h raws) repaired.0) r
 
 -- the verdict over the certificates of frames, with its output, is an answer of repair; by what is known of lists with the
 -- same proved samples
 pub repairs : ((h : Roots) (ms others : List sent.Message) → Covers h ms others → Covers h others ms → (verdict : VerdictParts) → IsVerdict h ms verdict
     → IsVerdict h others verdict)
-    → (header : Roots) (raws : List Raw) (ms : List sent.Message) (lies : ℕ) (verdict : Verdict) (parts : VerdictParts) → parts_of verdict ≡ parts
-    → Covers header ms (messages_in raws) → Covers header (messages_in raws) ms → lies ≡ lies_in header raws → IsVerdict header ms (parts_of verdict)
-    → (w : List ℕ) (status : Status) → Answers lies parts w status → Repairs header raws w status
+    → (header : Roots) (raws : List Raw) (ms : List sent.Message) (lies : ℕ) (verdict : Verdict) (parts : VerdictParts) → verdict_parts verdict ≡ parts
+    → Covers header ms (messages_in raws) → Covers header (messages_in raws) ms → lies ≡ lies_in header raws → IsVerdict header ms (verdict_parts verdict)
+    → (w : List ℕ) (status : Status) → GivesVerdict lies parts w status → Repairs header raws w status
 repairs law header raws ms lies verdict parts same only all counted is w status answers =
     let here = law header ms (messages_in raws) only all parts (subst (IsVerdict header ms) same is) in
     (parts, here, (answers.0, answers.1 ∙ ap (λ (n : ℕ). answer_status n parts) counted))
 
 -- no string of the verdict's collision is empty
-pub verdict_full : (header : Roots) (ms : List sent.Message) (verdict : Verdict) (left right : List ℕ) → parts_of verdict ≡ clash left right
-    → IsVerdict header ms (parts_of verdict) → has_empty (record { left = left; right = right }) ≡ false
+pub verdict_full : (header : Roots) (ms : List sent.Message) (verdict : Verdict) (left right : List ℕ) → verdict_parts verdict ≡ clash left right
+    → IsVerdict header ms (verdict_parts verdict) → has_empty (record { left = left; right = right }) ≡ false
 verdict_full header ms verdict left right same is =
     let found = subst (IsVerdict header ms) same is in found_full found.one found.other left right found.found
 
 -- there are cells among the verdict's missing ones
-pub verdict_some : (header : Roots) (ms : List sent.Message) (verdict : Verdict) (cells : CellList) → parts_of verdict ≡ missing cells
-    → IsVerdict header ms (parts_of verdict) → cells.list ≢ []
+pub verdict_some : (header : Roots) (ms : List sent.Message) (verdict : Verdict) (cells : CellList) → verdict_parts verdict ≡ missing cells
+    → IsVerdict header ms (verdict_parts verdict) → cells.list ≢ []
 verdict_some header ms verdict cells same is = (subst (IsVerdict header ms) same is).some
 
 -- ---- the header of a square

@@ -7,7 +7,7 @@ use Rattle.data_header.specs.Headers.{Roots}
 use Rattle.data_header.specs.DataRoots.{data_root_of}
 use Rattle.da_status.specs.declared.status.Status.{Status}
 use Rattle.da_status.specs.declared.status.Status.TheVariants.{Done}
-use Rattle.da_status.specs.Statuses.{kind_of, output}
+use Rattle.da_status.specs.Statuses.{status_kind, output}
 use Rattle.da_status.specs.Outcome.{Relation}
 use Rattle.da_files.specs.Frames.{header_in, WritesText}
 use Rattle.da_files.specs.Lines.{root_line}
@@ -21,15 +21,15 @@ abbrev pub Tells : Roots → Relation
 Tells header = WritesText Done (root_line (data_root_of header))
 
 -- what root answers comes with a complete output
-pub root_last : (files : List (List ℕ)) (w : List ℕ) (status : Status) → RootOf files w status → kind_of status ≡ output
+pub root_last : (files : List (List ℕ)) (w : List ℕ) (status : Status) → RootOf files w status → status_kind status ≡ output
 root_last files w status h =
-    over_each Tells (header_in (header_file files)) w status (kind_of status ≡ output) (λ header told. ap kind_of told.1) h
+    over_each Tells (header_in (header_file files)) w status (status_kind status ≡ output) (λ header told. ap status_kind told.1) h
 
 -- so does what root with a ROOT answers
-pub root_is_last : (root : List ℕ) (files : List (List ℕ)) (w : List ℕ) (status : Status) → RootIsOf root files w status → kind_of status ≡ output
+pub root_is_last : (root : List ℕ) (files : List (List ℕ)) (w : List ℕ) (status : Status) → RootIsOf root files w status → status_kind status ≡ output
 root_is_last root files w status h =
-    over_each (Ties root) (header_in (header_file files)) w status (kind_of status ≡ output)
-    (λ header told. ap kind_of told.1 ∙ verdict_kind (root_refusal header root)) h
+    over_each (Ties root) (header_in (header_file files)) w status (status_kind status ≡ output)
+    (λ header told. ap status_kind told.1 ∙ verdict_kind (root_refusal header root)) h
 
 -- a test of a refusal holds exactly where there is none
 none_where : (b : Bool) → (◌≡◌ {A = Option ℕ} (cond b None (Some 1)) None) ↔ (b ≡ true)

@@ -4,13 +4,13 @@ use Rattle.std.specs.Prelude.{◌↔◌}
 use Rattle.std.proofs.lemmas.Slice.Eq.{bytes_eq-Decides}
 use Rattle.data_header.specs.Headers.{Roots}
 use Rattle.da_status.specs.declared.status.Status.{Status}
-use Rattle.da_status.specs.Statuses.{kind_of, output}
+use Rattle.da_status.specs.Statuses.{status_kind, output}
 use Rattle.da_judging.specs.declared.answers.Answer.{Answer}
 use Rattle.da_judging.specs.declared.answers.Answer.TheVariants.{Message, Names, Fraud, Commit, Rooted}
 use Rattle.da_files.specs.Contents.{header_file}
 use Rattle.da_files.specs.Frames.{header_in}
 use Rattle.da_files.specs.Forms.{Over}
-use Rattle.da_judging.specs.Verify.{answer_file, answer_in, IsRefusal}
+use Rattle.da_judging.specs.Verify.{answer_file, answer_in, IsAnswerRefusal}
 use Rattle.da_judging.specs.VerifyFor.{IsRefusalFor}
 use Rattle.da_judging.specs.VerifyCommitment.{states_commitment, StatesCommitment, VerifiesCommitment, VerifyCommitmentOf}
 use Rattle.da_files.proofs.FormLemmas.{over_each}
@@ -19,12 +19,12 @@ use Rattle.da_judging.proofs.VerifyForLemmas.{none_by, zero_by}
 
 -- what verify answers comes with a complete output
 pub verify_commitment_last : (commitment : List ℕ) (files : List (List ℕ)) (w : List ℕ) (status : Status) → VerifyCommitmentOf commitment files w status
-    → kind_of status ≡ output
+    → status_kind status ≡ output
 verify_commitment_last commitment files w status h =
-    let Complete : Type 0 = kind_of status ≡ output in
+    let Complete : Type 0 = status_kind status ≡ output in
     over_each (λ header. Over (answer_in (answer_file files)) (λ answer. VerifiesCommitment commitment header answer)) (header_in (header_file files)) w status Complete
     (λ header. over_each (λ answer. VerifiesCommitment commitment header answer) (answer_in (answer_file files)) w status Complete
-    (λ answer verdict. ap kind_of verdict.3 ∙ verdict_kind verdict.0)) h
+    (λ answer verdict. ap status_kind verdict.3 ∙ verdict_kind verdict.0)) h
 
 -- the test of an answer is the plain equation
 pub states_is : (commitment : List ℕ) (answer : Answer) → (states_commitment commitment answer ≡ true) ↔ StatesCommitment commitment answer
@@ -36,7 +36,7 @@ states_is commitment (Rooted proof) = (λ e. absurd cc, λ h. absurd h)
 
 -- an answer isn't refused exactly where it isn't without the commitment, and states it
 pub stated_holds : (header : Roots) (answer : Answer) (commitment : List ℕ)
-    → IsRefusalFor (states_commitment commitment answer) header answer None ↔ (IsRefusal header answer None × StatesCommitment commitment answer)
+    → IsRefusalFor (states_commitment commitment answer) header answer None ↔ (IsAnswerRefusal header answer None × StatesCommitment commitment answer)
 stated_holds header answer commitment =
     let none = none_by (states_commitment commitment answer) header answer in
     let is = states_is commitment answer in

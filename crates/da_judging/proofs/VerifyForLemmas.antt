@@ -23,7 +23,7 @@ use Rattle.blob_commit.specs.declared.rooting.RootedRefusal.{RootedRefusal}
 use Rattle.blob_commit.specs.declared.rooting.RootedRefusal.TheVariants as rooted
 use Rattle.blob_commit.specs.Refusals.{commit_refusal, rooted_refusal}
 use Rattle.da_status.specs.declared.status.Status.{Status}
-use Rattle.da_status.specs.Statuses.{kind_of, output}
+use Rattle.da_status.specs.Statuses.{status_kind, output}
 use Rattle.da_status.specs.Judging.{first_bad, Judged}
 use Rattle.da_judging.specs.declared.answers.Answer.{Answer}
 use Rattle.da_judging.specs.declared.answers.Answer.TheVariants.{Message, Names, Fraud, Commit, Rooted}
@@ -32,7 +32,7 @@ use Rattle.da_judging.specs.declared.answers.Request.TheVariants as asked
 use Rattle.da_judging.specs.Answers.{is_answer_to, IsAnswerTo}
 use Rattle.da_files.specs.Frames.{header_in, error_of}
 use Rattle.da_files.specs.Forms.{under_judged, Over}
-use Rattle.da_judging.specs.Verify.{answer_file, answer_in, check_number, ns_number, fraud_number, commit_number, rooted_number, IsRefusal, IsOwnReply}
+use Rattle.da_judging.specs.Verify.{answer_file, answer_in, check_number, ns_number, fraud_number, commit_number, rooted_number, IsAnswerRefusal, IsOwnReply}
 use Rattle.da_judging.specs.VerifyFor.{request_file, request_in, IsRefusalFor, ShowsAsked, VerifiesFor, verify_for_judged, VerifyForOf}
 use Rattle.da_files.specs.Contents.{header_file}
 use Rattle.da_files.proofs.FormLemmas.{third_bad, over_is, judged_over, over_each}
@@ -62,26 +62,26 @@ module _ (files : List (List ℕ)) (fine : first_bad 0 (under_judged answer_in f
       (verify_for_judged files) (header_in (header_file files)) header (by_third (Ok request) asked) read
 
 -- what verify answers comes with a complete output
-pub verify_for_last : (files : List (List ℕ)) (w : List ℕ) (status : Status) → VerifyForOf files w status → kind_of status ≡ output
+pub verify_for_last : (files : List (List ℕ)) (w : List ℕ) (status : Status) → VerifyForOf files w status → status_kind status ≡ output
 verify_for_last files w status h =
-    let Complete : Type 0 = kind_of status ≡ output in
+    let Complete : Type 0 = status_kind status ≡ output in
     let asked = request_in (request_file files) in
     over_each (λ header. Over (answer_in (answer_file files)) (λ answer. Over asked (λ request. VerifiesFor header answer request)))
     (header_in (header_file files)) w status Complete
     (λ header. over_each (λ answer. Over asked (λ request. VerifiesFor header answer request)) (answer_in (answer_file files)) w status Complete
     (λ answer. over_each (λ request. VerifiesFor header answer request) asked w status Complete
-    (λ request verdict. ap kind_of verdict.3 ∙ verdict_kind verdict.0))) h
+    (λ request verdict. ap status_kind verdict.3 ∙ verdict_kind verdict.0))) h
 
 -- ---- answers that aren't refused, and those that are to another request
 
 -- an answer isn't refused exactly where it is to the request and holds, by whether it is to the request
-pub none_by : (b : Bool) (header : Roots) (answer : Answer) → IsRefusalFor b header answer None ↔ (IsRefusal header answer None × (b ≡ true))
+pub none_by : (b : Bool) (header : Roots) (answer : Answer) → IsRefusalFor b header answer None ↔ (IsAnswerRefusal header answer None × (b ≡ true))
 none_by true header answer = (λ h. (h, refl), λ h. h.0)
 none_by false header answer = (λ e. absurd cc, λ h. absurd cc)
 
 -- an answer isn't refused exactly where it isn't without the request, and is to it
 pub asked_holds : (header : Roots) (answer : Answer) (request : Request)
-    → IsRefusalFor (is_answer_to request answer) header answer None ↔ (IsRefusal header answer None × IsAnswerTo request answer)
+    → IsRefusalFor (is_answer_to request answer) header answer None ↔ (IsAnswerRefusal header answer None × IsAnswerTo request answer)
 asked_holds header answer request =
     let none = none_by (is_answer_to request answer) header answer in
     let to = answers_to request answer in
@@ -126,7 +126,7 @@ rooted_some (Some rooted.Root) e = cc
 rooted_some (Some (rooted.Path why)) e = cc
 
 -- no answer is refused by the number 0
-never_zero : (header : Roots) (answer : Answer) → IsRefusal header answer (Some 0) → ⊥
+never_zero : (header : Roots) (answer : Answer) → IsAnswerRefusal header answer (Some 0) → ⊥
 never_zero header (Message m) h = check_some (message_refusal header m) h
 never_zero header (Names name answer) h = ns_some (answer_refusal header name answer) h
 never_zero header (Fraud claim) h = fraud_some h.0 h.2

@@ -19,7 +19,7 @@ use Rattle.namespace_id.specs.declared.namespaces.Namespace as names
 use Rattle.namespace_id.specs.Names.{IsNamespace}
 use Rattle.square_serve.specs.Answers.{answer_refusal, IsComplete}
 use Rattle.square_serve.specs.Own.{IsOwnAnswer}
-use Rattle.befp_verify.specs.Refusals.{HasCause}
+use Rattle.befp_verify.specs.Refusals.{HasFraudCause}
 use Rattle.data_header.specs.DataRoots.{data_root_of}
 use Rattle.blob_commit.specs.Proofs.{RowParts, CommitParts, RootedParts, IsRow, IsCommit, IsRooted, CommitHolds, RootedHolds}
 use Rattle.blob_commit.specs.Refusals.{commit_refusal, rooted_refusal}
@@ -27,28 +27,28 @@ use Rattle.blob_commit.specs.Places.{IsOwnCommit, IsOwnRooted}
 use Rattle.da_wire.specs.Spelling.{IsFrame}
 use Rattle.frame_payloads.specs.kinds.Commit.{IsRowSent, IsCommitSent}
 use Rattle.da_status.specs.declared.status.Status.{Status}
-use Rattle.da_status.specs.Statuses.{kind_of, output}
+use Rattle.da_status.specs.Statuses.{status_kind, output}
 use Rattle.da_judging.specs.declared.answers.Answer.{Answer}
 use Rattle.da_judging.specs.declared.answers.Answer.TheVariants.{Message, Names, Fraud, Commit, Rooted}
 use Rattle.da_judging.specs.Answers.{answer_frame}
 use Rattle.da_files.specs.Frames.{header_in}
 use Rattle.da_files.specs.Forms.{Over}
-use Rattle.da_judging.specs.Verify.{answer_file, check_number, ns_number, fraud_number, commit_number, rooted_number, IsRefusal, verdict_status, answer_in, IsOwnReply, Verifies, VerifyOf}
+use Rattle.da_judging.specs.Verify.{answer_file, check_number, ns_number, fraud_number, commit_number, rooted_number, IsAnswerRefusal, verdict_status, answer_in, IsOwnReply, Verifies, VerifyOf}
 use Rattle.da_files.specs.Contents.{header_file}
 use Rattle.da_files.proofs.FormLemmas.{over_each}
 
 -- a verdict comes with its output
-pub verdict_kind : (refusal : Option ℕ) → kind_of (verdict_status refusal) ≡ output
+pub verdict_kind : (refusal : Option ℕ) → status_kind (verdict_status refusal) ≡ output
 verdict_kind None = refl
 verdict_kind (Some number) = refl
 
 -- what verify answers comes with a complete output
-pub verify_last : (files : List (List ℕ)) (w : List ℕ) (status : Status) → VerifyOf files w status → kind_of status ≡ output
+pub verify_last : (files : List (List ℕ)) (w : List ℕ) (status : Status) → VerifyOf files w status → status_kind status ≡ output
 verify_last files w status h =
-    let Complete : Type 0 = kind_of status ≡ output in
+    let Complete : Type 0 = status_kind status ≡ output in
     over_each (λ header. Over (answer_in (answer_file files)) (λ answer. Verifies header answer)) (header_in (header_file files)) w status Complete
     (λ header. over_each (λ answer. Verifies header answer) (answer_in (answer_file files)) w status Complete
-    (λ answer verdict. ap kind_of verdict.3 ∙ verdict_kind verdict.0)) h
+    (λ answer verdict. ap status_kind verdict.3 ∙ verdict_kind verdict.0)) h
 
 -- ---- answers that aren't refused
 
@@ -64,32 +64,32 @@ none_where number why Fact refusal =
 
 -- a sample isn't refused exactly where it is proved, by what is known of its refusals
 pub verified_proved : (header : Roots) (m : sent.Message) → (message_refusal header m ≡ None) ↔ IsProved header m
-    → IsRefusal header (Message m) None ↔ IsProved header m
+    → IsAnswerRefusal header (Message m) None ↔ IsProved header m
 verified_proved header m refusal = none_where check_number (message_refusal header m) (IsProved header m) refusal
 
 -- a namespace answer isn't refused exactly where it is complete, by what is known of its refusals
 pub verified_complete : (header : Roots) (name : names.Namespace) (answer : List NsEntry)
     → (answer_refusal header name answer ≡ None) ↔ IsComplete header name answer
-    → IsRefusal header (Names name answer) None ↔ IsComplete header name answer
+    → IsAnswerRefusal header (Names name answer) None ↔ IsComplete header name answer
 verified_complete header name answer refusal =
     none_where ns_number (answer_refusal header name answer) (IsComplete header name answer) refusal
 
 -- a fraud claim isn't refused exactly where it is accepted
-pub verified_accepted : (header : Roots) (claim : ClaimParts) → IsRefusal header (Fraud claim) None ↔ Accepts header claim
+pub verified_accepted : (header : Roots) (claim : ClaimParts) → IsAnswerRefusal header (Fraud claim) None ↔ Accepts header claim
 verified_accepted header claim = (
-  λ refused. subst (HasCause header claim) ((none_numbered fraud_number refused.0).0 refused.2) refused.1,
+  λ refused. subst (HasFraudCause header claim) ((none_numbered fraud_number refused.0).0 refused.2) refused.1,
   λ accepted. (None, accepted, refl),
 )
 
 -- a commitment proof isn't refused exactly where it holds, by what is known of its refusals
 pub verified_committed : (header : Roots) (proof : CommitParts) → (commit_refusal (data_root_of header) proof ≡ None) ↔ CommitHolds (data_root_of header) proof
-    → IsRefusal header (Commit proof) None ↔ CommitHolds (data_root_of header) proof
+    → IsAnswerRefusal header (Commit proof) None ↔ CommitHolds (data_root_of header) proof
 verified_committed header proof refusal =
     none_where commit_number (commit_refusal (data_root_of header) proof) (CommitHolds (data_root_of header) proof) refusal
 
 -- a root proof isn't refused exactly where it holds, by what is known of its refusals
 pub verified_rooted : (header : Roots) (proof : RootedParts) → (rooted_refusal (data_root_of header) proof ≡ None) ↔ RootedHolds (data_root_of header) proof
-    → IsRefusal header (Rooted proof) None ↔ RootedHolds (data_root_of header) proof
+    → IsAnswerRefusal header (Rooted proof) None ↔ RootedHolds (data_root_of header) proof
 verified_rooted header proof refusal =
     none_where rooted_number (rooted_refusal (data_root_of header) proof) (RootedHolds (data_root_of header) proof) refusal
 
@@ -113,7 +113,7 @@ pub verified_own : ((h : Roots) (m : sent.Message) → AreRoots h → IsMessage 
     → ((h : Roots) (proof : CommitParts) → IsCommit proof → CommitHolds (data_root_of h) proof → IsOwnCommit h proof)
     → ((root : List ℕ) (proof : RootedParts) → IsMessage proof.message → (rooted_refusal root proof ≡ None) ↔ RootedHolds root proof)
     → ((h : Roots) (proof : RootedParts) → IsRooted proof → RootedHolds (data_root_of h) proof → IsOwnRooted h proof)
-    → (header : Roots) (answer : Answer) (square : SquareShares) → IsFrame (answer_frame answer) → IsHeaderOf header square → IsRefusal header answer None
+    → (header : Roots) (answer : Answer) (square : SquareShares) → IsFrame (answer_frame answer) → IsHeaderOf header square → IsAnswerRefusal header answer None
     → IsOwnReply answer square
 verified_own refusal own refusals owns accused commits committed rooted shows header (Message m) square is of none =
     own header m ((verified_proved header m (refusal header m (header_roots square header of) is)).0 none) square of

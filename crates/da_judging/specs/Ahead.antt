@@ -4,18 +4,18 @@ use Rattle.namespace_id.specs.declared.digests.Digest.{Digest}
 use Rattle.axis_roots.specs.declared.message.messages.Message as sent
 use Rattle.axis_roots.specs.Messages.{shown_leaf}
 use Rattle.da_wire.specs.Reading.{Raw}
-use Rattle.da_wire.specs.Frames.{message_in}
+use Rattle.da_wire.specs.Frames.{raw_message}
 
 -- a digest is that of the leaf which a frame shows in a square of width k, if it is a sample
-abbrev pub IsShownBy : ℕ → Digest → Raw → Type 0
-IsShownBy k digest frame =
-    (m : sent.Message) → message_in frame ≡ Some m → digest ≡ shown_leaf k m.cell m.share
+abbrev pub IsLeafDigestOf : ℕ → Digest → Raw → Type 0
+IsLeafDigestOf k digest frame =
+    (m : sent.Message) → raw_message frame ≡ Some m → digest ≡ shown_leaf k m.cell m.share
 
 -- digests are those of the leaves which the first frames show, in their order
 unfoldable pub AreAhead : ℕ → List Digest → List Raw → Type 0
 AreAhead k [] frames = Unit {0}
 AreAhead k (digest ∷ digests) [] = Unit {0}
-AreAhead k (digest ∷ digests) (frame ∷ frames) = IsShownBy k digest frame × AreAhead k digests frames
+AreAhead k (digest ∷ digests) (frame ∷ frames) = IsLeafDigestOf k digest frame × AreAhead k digests frames
 
 -- a digest is the one of the first frame, and others are those of the frames behind it; where there is
 -- none there are no others

@@ -81,18 +81,18 @@ Samples cell axis (Commit proof) = ⊥
 Samples cell axis (Rooted proof) = (proof.message.cell ≡ cell) × (proof.message.axis ≡ axis)
 
 -- a namespace answer is for this namespace, and other answers are no namespace answers
-abbrev pub Tells : names.Namespace → Answer → Type 0
-Tells name (Message m) = ⊥
-Tells name (Names other answer) = other ≡ name
-Tells name (Fraud claim) = ⊥
-Tells name (Commit proof) = ⊥
-Tells name (Rooted proof) = ⊥
+abbrev pub IsAnswerFor : names.Namespace → Answer → Type 0
+IsAnswerFor name (Message m) = ⊥
+IsAnswerFor name (Names other answer) = other ≡ name
+IsAnswerFor name (Fraud claim) = ⊥
+IsAnswerFor name (Commit proof) = ⊥
+IsAnswerFor name (Rooted proof) = ⊥
 
 -- the same in plain equations: to a request for a sample this is a sample or a root proof with its cell and its axis, to
 -- one for a namespace a namespace answer with this namespace
 abbrev pub IsAnswerTo : Request → Answer → Type 0
 IsAnswerTo (asked.Sample cell axis) answer = Samples cell axis answer
-IsAnswerTo (asked.Names name) answer = Tells name answer
+IsAnswerTo (asked.Names name) answer = IsAnswerFor name answer
 
 -- a frame is that of an answer to a request
 abbrev pub IsFrameTo : Request → Frame → Type 0

@@ -10,7 +10,7 @@ use Rattle.square_layout.specs.Blocks.{SquareShares}
 use Rattle.axis_roots.specs.Openings.{IsProved}
 use Rattle.axis_roots.specs.Own.{ShowsOwn, NamesClash}
 use Rattle.da_wire.specs.Reading.{Raw}
-use Rattle.da_wire.specs.Frames.{frames_of, message_in}
+use Rattle.da_wire.specs.Frames.{frames_of, raw_message}
 use Rattle.da_status.specs.declared.status.Status.{Status}
 use Rattle.da_status.specs.declared.status.Status.TheVariants.{Done, Refused}
 use Rattle.da_judging.specs.declared.check.Finding.{Finding}
@@ -25,7 +25,7 @@ use Rattle.da_status.specs.Outcome.{Relation}
 -- what is found of a frame
 abbrev pub finding_of : Roots → Raw → Finding
 finding_of header frame =
-    option_map_or (λ m. option_map_or found.Refused (message_refusal header m) found.Proved) (message_in frame) found.NoMessage
+    option_map_or (λ m. option_map_or found.Refused (message_refusal header m) found.Proved) (raw_message frame) found.NoMessage
 
 -- the line for what was found of a frame: the number of the first check that fails; that of the grammar is 0
 abbrev pub line_of : Finding → List ℕ
@@ -43,8 +43,8 @@ is_ok found.NoMessage = false
 is_ok (found.Refused why) = false
 
 -- the lines of all frames, in their order
-abbrev pub lines_of : Roots → List Raw → List ℕ
-lines_of header frames = flat_map (λ frame. line_of (finding_of header frame)) frames
+abbrev pub check_lines : Roots → List Raw → List ℕ
+check_lines header frames = flat_map (λ frame. line_of (finding_of header frame)) frames
 
 -- whether all frames are proved
 abbrev pub are_ok : Roots → List Raw → Bool
@@ -56,19 +56,19 @@ status_of_lines all_ok = if all_ok then Done else Refused
 
 -- a frame is a sample that is proved under the header
 abbrev pub IsProvedFrame : Roots → Raw → Type 0
-IsProvedFrame header frame = (m : sent.Message) × (message_in frame ≡ Some m) × IsProved header m
+IsProvedFrame header frame = (m : sent.Message) × (raw_message frame ≡ Some m) × IsProved header m
 
 -- a frame is a sample that shows the square's own share, or the sample and the square name a
 -- collision
 abbrev pub IsOwnFrame : Raw → SquareShares → Type 0
 IsOwnFrame frame square =
-    (m : sent.Message) × (message_in frame ≡ Some m) × (ShowsOwn m square ⊎ NamesClash m square)
+    (m : sent.Message) × (raw_message frame ≡ Some m) × (ShowsOwn m square ⊎ NamesClash m square)
 
 -- ---- the command
 
 -- a line for each frame; Done where all are proved
 abbrev pub Lists : Roots → List Raw → Relation
-Lists header frames w status = (w ≡ lines_of header frames) × (status ≡ status_of_lines (are_ok header frames))
+Lists header frames w status = (w ≡ check_lines header frames) × (status ≡ status_of_lines (are_ok header frames))
 
 -- what check answers to a HEADER that is a header: the lines of the frames in MESSAGES under it
 abbrev pub CheckOf : List (List ℕ) → Relation

@@ -7,7 +7,7 @@ use Rattle.axis_roots.specs.Claims.{ClaimParts, ClaimNames}
 use Rattle.befp_verify.specs.declared.verifying.FraudRefusal.{FraudRefusal}
 use Rattle.befp_verify.specs.declared.compacting.Compacted.{Compacted}
 use Rattle.befp_verify.specs.declared.compacting.Compacted.TheVariants as made
-use Rattle.befp_verify.specs.Refusals.{HasCause}
+use Rattle.befp_verify.specs.Refusals.{HasFraudCause}
 use Rattle.befp_verify.specs.Compacting.{IsCompacted}
 use Rattle.da_wire.specs.declared.frames.Frame.{Frame}
 use Rattle.da_wire.specs.declared.frames.Frame.TheVariants as frames
@@ -18,7 +18,7 @@ use Rattle.da_status.specs.declared.status.Status.{Status}
 use Rattle.da_status.specs.declared.status.Status.TheVariants.{Done, Clash, Refused}
 use Rattle.da_status.specs.Outcome.{Relation}
 use Rattle.da_files.specs.Contents.{file_of, header_file}
-use Rattle.da_files.specs.Frames.{header_in, single, WritesWith, WritesText}
+use Rattle.da_files.specs.Frames.{header_in, single_file, WritesWith, WritesText}
 use Rattle.da_files.specs.Forms.{Over}
 use Rattle.da_judging.specs.Verify.{fraud_number, verdict_line}
 
@@ -30,7 +30,7 @@ claim_file files = file_of files 1
 
 -- the claim that a file is, or where it stops being a frame of one
 abbrev pub claim_in : List ℕ → Result ClaimParts ℕ
-claim_in bytes = single claim_of (only_of bytes (fraud_kind ∷ []))
+claim_in bytes = single_file claim_of (only_of bytes (fraud_kind ∷ []))
 
 -- ---- answers
 
@@ -57,7 +57,7 @@ CompactsBy header claim (Some why) = WritesText Refused (verdict_line (Some (fra
 -- what is written for a claim under a header, by the first check that refuses it
 abbrev pub CompactsJudged : Roots → ClaimParts → Relation
 CompactsJudged header claim w status =
-    (why : Option FraudRefusal) × HasCause header claim why × CompactsBy header claim why w status
+    (why : Option FraudRefusal) × HasFraudCause header claim why × CompactsBy header claim why w status
 
 -- under the header of a square: the claim is refused, or a sample of it, or its set, and the square name a collision
 abbrev pub CompactsOwn : ClaimParts → SquareShares → Status → Type 0

@@ -17,7 +17,7 @@ use Rattle.da_wire.specs.declared.frames.Frame.TheVariants as frames
 use Rattle.da_wire.specs.Spelling.{spelling}
 use Rattle.frame_payloads.specs.kinds.Fraud.{is_unwritten}
 use Rattle.da_wire.specs.Reading.{Raw}
-use Rattle.da_wire.specs.Frames.{frames_of, message_in, claim_in}
+use Rattle.da_wire.specs.Frames.{frames_of, raw_message, raw_claim}
 use Rattle.da_status.specs.declared.status.Asked.TheVariants.{Count}
 use Rattle.da_status.specs.declared.status.Status.TheVariants.{Done, BadRequest, Fraud, Waiting}
 use Rattle.da_status.specs.Outcome.{Relation, Refuses}
@@ -30,7 +30,7 @@ use Rattle.da_judging.specs.Keys.{key_file_in}
 
 -- the event that a frame is: a sample of the grammar or a fraud claim of the grammar; any other frame is none
 abbrev pub event_in : Raw → Option Event
-event_in frame = option_map_or (λ m. Some (Sample m)) (message_in frame) (option_map Claim (claim_in frame))
+event_in frame = option_map_or (λ m. Some (Sample m)) (raw_message frame) (option_map Claim (raw_claim frame))
 
 -- the events among frames, in their order
 unfoldable pub events_in : List Raw → List Event
@@ -40,11 +40,11 @@ events_in (frame ∷ later) = option_map_or (λ event. event ∷ events_in later
 -- ---- answers
 
 -- the output of a verdict with its status: a line, the frame of the claim, or that of the cells that are waited for
-abbrev pub Answers : Light → Relation
-Answers light.Available w status = (w ≡ codes "available\n") × (status ≡ Done)
-Answers (light.Rejected claim) w status =
+abbrev pub GivesLight : Light → Relation
+GivesLight light.Available w status = (w ≡ codes "available\n") × (status ≡ Done)
+GivesLight (light.Rejected claim) w status =
     (spelling (frames.Fraud claim) ≡ Some w) × (status ≡ Fraud claim.axis claim.index)
-Answers (light.Waiting cells) w status =
+GivesLight (light.Waiting cells) w status =
     (spelling (frames.Missing cells) ≡ Some w) × (status ≡ Waiting (length cells.list))
 
 -- a verdict has an output: its claim can be written, and there are cells that it waits for
@@ -55,7 +55,7 @@ HasOutput (light.Waiting cells) = cells.list ≢ []
 
 -- what is written for frames under a header where these cells were planned: the light verdict
 abbrev pub Judges : Roots → List Cell → List Raw → Relation
-Judges header plan raws w status = (verdict : Light) × IsLight header plan (events_in raws) verdict × Answers verdict w
+Judges header plan raws w status = (verdict : Light) × IsLight header plan (events_in raws) verdict × GivesLight verdict w
     status
 
 -- the answer to a count that may be above the limit, which is refused

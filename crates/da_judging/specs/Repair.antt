@@ -10,7 +10,7 @@ use Rattle.da_wire.specs.declared.frames.Frame.{Frame}
 use Rattle.da_wire.specs.declared.frames.Frame.TheVariants as frames
 use Rattle.da_wire.specs.Spelling.{spelling}
 use Rattle.da_wire.specs.Reading.{Raw}
-use Rattle.da_wire.specs.Frames.{frames_of, message_in}
+use Rattle.da_wire.specs.Frames.{frames_of, raw_message}
 use Rattle.da_status.specs.declared.status.Status.{Status}
 use Rattle.da_status.specs.declared.status.Status.TheVariants.{Done, Fraud, Missing, Clash}
 use Rattle.da_status.specs.Outcome.{Relation}
@@ -24,7 +24,7 @@ use Rattle.da_files.specs.Contents.{header_file, messages_file}
 -- the samples of the grammar among frames, in their order
 unfoldable pub messages_in : List Raw → List sent.Message
 messages_in [] = []
-messages_in (frame ∷ later) = option_map_or (λ m. m ∷ messages_in later) (message_in frame) (messages_in later)
+messages_in (frame ∷ later) = option_map_or (λ m. m ∷ messages_in later) (raw_message frame) (messages_in later)
 
 -- how many frames are lies: no sample of the grammar that is proved under the header
 unfoldable pub lies_in : Roots → List Raw → ℕ
@@ -34,11 +34,11 @@ lies_in header (frame ∷ later) = if is_ok (finding_of header frame) then lies_
 -- ---- answers
 
 -- the frame of an answer
-abbrev pub answer_frame : VerdictParts → Frame
-answer_frame (whole square) = frames.Square square
-answer_frame (missing cells) = frames.Missing cells
-answer_frame (fraud claim) = frames.Fraud claim
-answer_frame (clash left right) = frames.Clash (record { left = left; right = right })
+abbrev pub verdict_frame : VerdictParts → Frame
+verdict_frame (whole square) = frames.Square square
+verdict_frame (missing cells) = frames.Missing cells
+verdict_frame (fraud claim) = frames.Fraud claim
+verdict_frame (clash left right) = frames.Clash (record { left = left; right = right })
 
 -- the status of an answer where so many frames were lies
 abbrev pub answer_status : ℕ → VerdictParts → Status
@@ -48,20 +48,20 @@ answer_status lies (fraud claim) = Fraud claim.axis claim.index
 answer_status lies (clash left right) = Clash
 
 -- the output is the one frame of an answer, with its status
-abbrev pub Answers : ℕ → VerdictParts → Relation
-Answers lies verdict w status = (spelling (answer_frame verdict) ≡ Some w) × (status ≡ answer_status lies verdict)
+abbrev pub GivesVerdict : ℕ → VerdictParts → Relation
+GivesVerdict lies verdict w status = (spelling (verdict_frame verdict) ≡ Some w) × (status ≡ answer_status lies verdict)
 
 -- what is written for frames under a header: an answer that repair may give
 abbrev pub Repairs : Roots → List Raw → Relation
 Repairs header raws w status =
-    (verdict : VerdictParts) × IsVerdict header (messages_in raws) verdict × Answers (lies_in header raws) verdict w status
+    (verdict : VerdictParts) × IsVerdict header (messages_in raws) verdict × GivesVerdict (lies_in header raws) verdict w status
 
 -- under the header of the square: the square itself, or the missing cells; or a proved sample of the frames and the
 -- square name a collision
 abbrev pub RepairsOwn : Roots → List Raw → SquareShares → Relation
 RepairsOwn header raws square w status =
     ((verdict : VerdictParts) × IsVerdict header (messages_in raws) verdict × IsOwnVerdict square verdict
-    × Answers (lies_in header raws) verdict w status)
+    × GivesVerdict (lies_in header raws) verdict w status)
     ⊎ SomeNames header (messages_in raws) square
 
 -- ---- the command

@@ -15,7 +15,7 @@ use Rattle.square_serve.specs.Answers.{answer_refusal}
 use Rattle.square_serve.specs.Own.{ShowsAll, AnswerNames}
 use Rattle.befp_verify.specs.declared.verifying.FraudRefusal.{FraudRefusal}
 use Rattle.befp_verify.specs.declared.verifying.FraudRefusal.TheVariants as fraud
-use Rattle.befp_verify.specs.Refusals.{HasCause}
+use Rattle.befp_verify.specs.Refusals.{HasFraudCause}
 use Rattle.data_header.specs.DataRoots.{data_root_of}
 use Rattle.blob_commit.specs.declared.proving.CommitRefusal.{CommitRefusal}
 use Rattle.blob_commit.specs.declared.proving.CommitRefusal.TheVariants as commit
@@ -32,7 +32,7 @@ use Rattle.da_judging.specs.declared.answers.Answer.{Answer}
 use Rattle.da_judging.specs.declared.answers.Answer.TheVariants.{Message, Names, Fraud, Commit, Rooted}
 use Rattle.da_judging.specs.Answers.{answer_of}
 use Rattle.da_files.specs.Contents.{file_of, header_file}
-use Rattle.da_files.specs.Frames.{header_in, single}
+use Rattle.da_files.specs.Frames.{header_in, single_file}
 use Rattle.da_files.specs.Forms.{Over}
 use Rattle.da_status.specs.Outcome.{Relation}
 
@@ -72,14 +72,14 @@ rooted_number rooted.Root = 2
 rooted_number (rooted.Path why) = 3
 
 -- an answer is refused by the check of this number, or by none where it holds
-abbrev pub IsRefusal : Roots → Answer → Option ℕ → Type 0
-IsRefusal header (Message m) refusal = refusal ≡ option_map check_number (message_refusal header m)
-IsRefusal header (Names name answer) refusal = refusal ≡ option_map ns_number (answer_refusal header name answer)
-IsRefusal header (Fraud claim) refusal =
-    (why : Option FraudRefusal) × HasCause header claim why × (refusal ≡ option_map fraud_number why)
-IsRefusal header (Commit proof) refusal =
+abbrev pub IsAnswerRefusal : Roots → Answer → Option ℕ → Type 0
+IsAnswerRefusal header (Message m) refusal = refusal ≡ option_map check_number (message_refusal header m)
+IsAnswerRefusal header (Names name answer) refusal = refusal ≡ option_map ns_number (answer_refusal header name answer)
+IsAnswerRefusal header (Fraud claim) refusal =
+    (why : Option FraudRefusal) × HasFraudCause header claim why × (refusal ≡ option_map fraud_number why)
+IsAnswerRefusal header (Commit proof) refusal =
     refusal ≡ option_map commit_number (commit_refusal (data_root_of header) proof)
-IsRefusal header (Rooted proof) refusal =
+IsAnswerRefusal header (Rooted proof) refusal =
     refusal ≡ option_map rooted_number (rooted_refusal (data_root_of header) proof)
 
 -- a sample shows the square's own share, a namespace answer exactly the square's shares of the namespace, a commitment
@@ -108,7 +108,7 @@ answer_kinds = message_kind ∷ names_kind ∷ fraud_kind ∷ commit_kind ∷ ro
 -- the answer that a file is, or where it stops being one message, one namespace answer, one fraud claim, one commitment
 -- proof or one root proof and nothing else
 abbrev pub answer_in : List ℕ → Result Answer ℕ
-answer_in bytes = single answer_of (only_of bytes answer_kinds)
+answer_in bytes = single_file answer_of (only_of bytes answer_kinds)
 
 -- ---- the command
 
@@ -119,7 +119,7 @@ answer_file files = file_of files 1
 -- the line and the status of an answer under a header
 abbrev pub Verifies : Roots → Answer → Relation
 Verifies header answer w status =
-    (refusal : Option ℕ) × IsRefusal header answer refusal × (w ≡ verdict_line refusal) × (status ≡ verdict_status refusal)
+    (refusal : Option ℕ) × IsAnswerRefusal header answer refusal × (w ≡ verdict_line refusal) × (status ≡ verdict_status refusal)
 
 -- what verify answers to a HEADER and an ANSWER in their forms
 abbrev pub VerifyOf : List (List ℕ) → Relation

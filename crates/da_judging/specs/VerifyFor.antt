@@ -19,9 +19,9 @@ use Rattle.da_judging.specs.declared.answers.Request.{Request}
 use Rattle.da_judging.specs.declared.answers.Request.TheVariants as asked
 use Rattle.da_judging.specs.Answers.{request_of, is_answer_to}
 use Rattle.da_files.specs.Contents.{file_of, header_file}
-use Rattle.da_files.specs.Frames.{header_in, single, error_of}
+use Rattle.da_files.specs.Frames.{header_in, single_file, error_of}
 use Rattle.da_files.specs.Forms.{under_judged, Over}
-use Rattle.da_judging.specs.Verify.{answer_file, answer_in, IsRefusal, verdict_line, verdict_status}
+use Rattle.da_judging.specs.Verify.{answer_file, answer_in, IsAnswerRefusal, verdict_line, verdict_status}
 
 -- ---- REQUEST
 
@@ -31,7 +31,7 @@ request_kinds = sample_kind ∷ request_kind ∷ []
 
 -- the request that a file is, or where it stops being one
 abbrev pub request_in : List ℕ → Result Request ℕ
-request_in bytes = single request_of (only_of bytes request_kinds)
+request_in bytes = single_file request_of (only_of bytes request_kinds)
 
 -- ---- the command
 
@@ -41,7 +41,7 @@ request_file files = file_of files 2
 
 -- an answer that is to the request is refused by the check that refuses it without one, any other by the number 0
 abbrev pub IsRefusalFor : Bool → Roots → Answer → Option ℕ → Type 0
-IsRefusalFor true header answer refusal = IsRefusal header answer refusal
+IsRefusalFor true header answer refusal = IsAnswerRefusal header answer refusal
 IsRefusalFor false header answer refusal = refusal ≡ Some 0
 
 -- this is the share that the square's extension has at the cell

@@ -4,7 +4,7 @@ ghost use Rattle.std.specs.Prelude.{◌≡◌, IfSome};
 ghost use Rattle.da_wire.specs.Reading.{raw_seen};
 ghost use Rattle.da_wire.specs.Frames.{frames_of};
 ghost use Rattle.da_files.specs.Contents.{contents_of};
-ghost use Rattle.da_judging.specs.Ahead.{IsShownBy};
+ghost use Rattle.da_judging.specs.Ahead.{IsLeafDigestOf};
 ghost use Rattle.da_judging.specs.Check.{finding_of, line_of, is_ok, Lists, CheckOf};
 ghost use Rattle.da_files.specs.Forms.{messages_judged};
 ghost use Rattle.da_status.specs.Judging.{Judged};
@@ -42,7 +42,7 @@ fn finding_of(
     leaf: Option<Digest>,
 ) -> Finding
     requires under { IfSome trees.old (λ kept. kept ≡ header.now) }
-    requires leaf { IfSome leaf (λ digest. IsShownBy header.now.k digest (raw_seen frame)) }
+    requires leaf { IfSome leaf (λ digest. IsLeafDigestOf header.now.k digest (raw_seen frame)) }
     ensures value { result ≡ finding_of header.now (raw_seen frame.entry) }
     ensures kept { trees.new ≡ trees.old }
 {

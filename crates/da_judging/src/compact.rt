@@ -9,7 +9,7 @@ ghost use Rattle.da_files.specs.Frames.{ReadsSingle, WritesWith};
 ghost use Rattle.da_judging.specs.Compact.{claim_in, made_frame, made_status, Compacts, CompactsJudged, CompactOf};
 ghost use Rattle.da_files.specs.Forms.{under_judged};
 ghost use Rattle.da_status.specs.Judging.{Judged};
-ghost use Rattle.da_status.specs.Statuses.{kind_of, output};
+ghost use Rattle.da_status.specs.Statuses.{status_kind, output};
 ghost use Rattle.da_status.specs.Outcome.{EndsAtOnce};
 
 use crate::verify::{fraud_number, verdict_line};
@@ -38,7 +38,7 @@ fn claim_in(alloc: Global, bytes: &[u8]) -> Result<FraudClaim, Unread>
 /// The status that goes with what a claim was made into.
 fn made_status(made: &Compacted) -> Status
     ensures value { result ≡ made_status made.now }
-    ensures output { kind_of result ≡ output }
+    ensures output { status_kind result ≡ output }
 {
     match made {
         Compacted::Claim(_) => Status::Done,

@@ -7,15 +7,15 @@ ghost use Rattle.namespace_id.specs.declared.cells.Cell.{Cell as Place};
 ghost use Rattle.namespace_id.specs.Cells.{is_in_square};
 ghost use Rattle.light_node.specs.declared.events.Light.TheVariants as verdict;
 ghost use Rattle.light_node.specs.Events.{IsLight};
-ghost use Rattle.light_node.specs.Nodes.{StandsFor, IsSame};
-ghost use Rattle.light_node.specs.Plans.{PicksInside, IsPlan};
+ghost use Rattle.light_node.specs.Nodes.{NodeStands, IsSameNode};
+ghost use Rattle.light_node.specs.Plans.{PicksInside, IsPlanOf};
 ghost use Rattle.da_wire.specs.declared.frames.Frame.TheVariants as FrameOf;
 ghost use Rattle.frame_payloads.specs.kinds.Fraud.{is_unwritten};
 ghost use Rattle.da_wire.specs.Reading.{raw_seen};
 ghost use Rattle.da_wire.specs.Spelling.{spelling};
 ghost use Rattle.da_wire.specs.Frames.{frames_of};
 ghost use Rattle.da_files.specs.Contents.{contents_of};
-ghost use Rattle.da_judging.specs.Light.{event_in, events_in, Answers, HasOutput, Lights, LightOf, light_by_judged, LightByOf};
+ghost use Rattle.da_judging.specs.Light.{event_in, events_in, GivesLight, HasOutput, Lights, LightOf, light_by_judged, LightByOf};
 ghost use Rattle.da_files.specs.Forms.{messages_judged};
 ghost use Rattle.da_status.specs.Judging.{Judged};
 ghost use Rattle.da_status.specs.Outcome.{EndsAtOnce};
@@ -53,9 +53,9 @@ fn hand_over<F: Picker>(
     messages: &[u8],
     node: &mut LightNode<F>,
 ) -> Result<(), NoMemory>
-    ensures stands { OnOk result ((plan : List Place) → StandsFor F.picks node.old plan [] →
-        StandsFor F.picks node.new plan (events_in (frames_of messages.now))) }
-    ensures kept { OnOk result (IsSame node.old node.new) }
+    ensures stands { OnOk result ((plan : List Place) → NodeStands F.picks node.old plan [] →
+        NodeStands F.picks node.new plan (events_in (frames_of messages.now))) }
+    ensures kept { OnOk result (IsSameNode node.old node.new) }
 {
     let mut rest = messages;
     while let Some((frame, after)) = next_frame(rest) {
@@ -93,7 +93,7 @@ fn judge<F: Picker>(
 ) -> Result<Light, NoMemory>
     requires { PicksInside F.can_pick F.picks pick count header.now.k }
     ensures { IfOk result (λ light. (plan : List Place) × (length plan ≡ count)
-        × IsPlan F.picks pick plan
+        × IsPlanOf F.picks pick plan
         × IsLight header.now plan (events_in (frames_of messages.now)) light) }
 {
     let room = CellRoom::new(alloc, header.k)?;
@@ -132,7 +132,7 @@ pub fn verdict(
 /// Writes a claim that was accepted.
 fn give_claim<O: Sink>(alloc: Global, upheld: Upheld, out: &mut O) -> Status
     requires { is_unwritten upheld ≡ false }
-    ensures { EndsAtOnce (Answers (verdict.Rejected upheld)) (O.taken out.old) (O.taken out.new)
+    ensures { EndsAtOnce (GivesLight (verdict.Rejected upheld)) (O.taken out.old) (O.taken out.new)
         (O.faults out.old) (O.faults out.new) (out.new ≡ out.old) result }
 {
     let claim = upheld.claim();
@@ -148,7 +148,7 @@ fn give_claim<O: Sink>(alloc: Global, upheld: Upheld, out: &mut O) -> Status
 /// Writes the cells that are waited for.
 fn give_waiting<O: Sink>(alloc: Global, cells: Cells, out: &mut O) -> Status
     requires { cells.list ≢ [] }
-    ensures { EndsAtOnce (Answers (verdict.Waiting cells)) (O.taken out.old) (O.taken out.new)
+    ensures { EndsAtOnce (GivesLight (verdict.Waiting cells)) (O.taken out.old) (O.taken out.new)
         (O.faults out.old) (O.faults out.new) (out.new ≡ out.old) result }
 {
     let status = Status::Waiting(cells.list.len() as u64);
@@ -158,7 +158,7 @@ fn give_waiting<O: Sink>(alloc: Global, cells: Cells, out: &mut O) -> Status
 /// Writes a verdict. All memory is taken before the write.
 fn give_verdict<O: Sink>(alloc: Global, light: Light, out: &mut O) -> Status
     requires { HasOutput light }
-    ensures { EndsAtOnce (Answers light) (O.taken out.old) (O.taken out.new) (O.faults out.old)
+    ensures { EndsAtOnce (GivesLight light) (O.taken out.old) (O.taken out.new) (O.faults out.old)
         (O.faults out.new) (out.new ≡ out.old) result }
 {
     match light {

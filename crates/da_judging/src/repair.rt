@@ -3,10 +3,10 @@
 ghost use Rattle.std.specs.Prelude.{◌≡◌, ◌≢◌, IsSome, false, List, []};
 ghost use Rattle.axis_roots.specs.declared.message.messages.Message as sent;
 ghost use Rattle.repair_queue.specs.Verdicts.{missing, fraud, IsVerdict};
-ghost use Rattle.repair_queue.specs.Answers.{parts_of};
+ghost use Rattle.repair_queue.specs.Answers.{verdict_parts};
 ghost use Rattle.da_wire.specs.declared.frames.Frame.TheVariants as FrameOf;
 ghost use Rattle.da_wire.specs.Spelling.{spelling};
-ghost use Rattle.da_judging.specs.Repair.{Answers};
+ghost use Rattle.da_judging.specs.Repair.{GivesVerdict};
 ghost use Rattle.da_status.specs.Outcome.{EndsAtOnce};
 
 use axis_roots::FraudProof;
@@ -23,7 +23,7 @@ use std::alloc::Global;
 /// Writes missing cells, where so many frames were lies.
 fn give_missing<O: Sink>(alloc: Global, cells: Cells, lies: u64, out: &mut O) -> Status
     requires { cells.list ≢ [] }
-    ensures { EndsAtOnce (Answers lies (missing cells)) (O.taken out.old) (O.taken out.new)
+    ensures { EndsAtOnce (GivesVerdict lies (missing cells)) (O.taken out.old) (O.taken out.new)
         (O.faults out.old) (O.faults out.new) (out.new ≡ out.old) result }
 {
     value_laws();
@@ -33,7 +33,7 @@ fn give_missing<O: Sink>(alloc: Global, cells: Cells, lies: u64, out: &mut O) ->
 
 /// Writes the claim of a fraud proof. How many frames were lies plays no part.
 fn give_proof<O: Sink>(alloc: Global, proof: &FraudProof, out: &mut O) -> Status
-    ensures { EndsAtOnce (Answers 0 (fraud proof.now.claim)) (O.taken out.old) (O.taken out.new)
+    ensures { EndsAtOnce (GivesVerdict 0 (fraud proof.now.claim)) (O.taken out.old) (O.taken out.new)
         (O.faults out.old) (O.faults out.new) (out.new ≡ out.old) result }
 {
     let status = Status::Fraud(proof.axis, proof.index);
@@ -52,8 +52,8 @@ pub fn give_verdict<O: Sink>(
     lies: u64,
     out: &mut O,
 ) -> Status
-    requires { (ms : List sent.Message) × IsVerdict header.now ms (parts_of verdict) }
-    ensures { EndsAtOnce (Answers lies (parts_of verdict)) (O.taken out.old) (O.taken out.new)
+    requires { (ms : List sent.Message) × IsVerdict header.now ms (verdict_parts verdict) }
+    ensures { EndsAtOnce (GivesVerdict lies (verdict_parts verdict)) (O.taken out.old) (O.taken out.new)
         (O.faults out.old) (O.faults out.new) (out.new ≡ out.old) result }
 {
     let _k = header.k;

@@ -7,11 +7,11 @@ ghost use Rattle.blob_commit.specs.Refusals.{commit_refusal, rooted_refusal};
 ghost use Rattle.da_judging.specs.declared.answers.Answer.TheVariants as AnswerOf;
 ghost use Rattle.da_files.specs.Contents.{contents_of};
 ghost use Rattle.da_files.specs.Frames.{ReadsSingle, WritesText};
-ghost use Rattle.da_judging.specs.Verify.{check_number, ns_number, fraud_number, commit_number, rooted_number, IsRefusal, verdict_line, verdict_status, answer_in, Verifies, VerifyOf};
+ghost use Rattle.da_judging.specs.Verify.{check_number, ns_number, fraud_number, commit_number, rooted_number, IsAnswerRefusal, verdict_line, verdict_status, answer_in, Verifies, VerifyOf};
 ghost use Rattle.da_files.specs.Forms.{under_judged};
 ghost use Rattle.da_status.specs.Judging.{Judged};
 ghost use Rattle.da_status.specs.Outcome.{EndsAtOnce};
-ghost use Rattle.da_status.specs.Statuses.{kind_of, output};
+ghost use Rattle.da_status.specs.Statuses.{status_kind, output};
 
 use crate::answers::{Answer, answer_of};
 use crate::forms::header_and_answer;
@@ -103,7 +103,7 @@ fn rooted_number(why: RootedRefusal) -> u64
 /// The number of the check that refuses a fraud claim, none of one that is accepted. It takes the
 /// memory that verifying needs.
 fn refuse_claim(alloc: Global, header: &Header, claim: FraudClaim) -> Result<Option<u64>, NoMemory>
-    ensures { IfOk result (λ refusal. IsRefusal header.now (AnswerOf.Fraud claim) refusal) }
+    ensures { IfOk result (λ refusal. IsAnswerRefusal header.now (AnswerOf.Fraud claim) refusal) }
 {
     let mut room = VerifyRoom::new(alloc, header.k)?;
     match befp_verify::verify(&mut room, header, claim) {
@@ -142,7 +142,7 @@ fn refuse_rooted(header: &Header, proof: &RootedMessage) -> Option<u64>
 /// The number of the check that refuses an answer, none of one that holds. It takes memory for a fraud
 /// claim alone.
 pub fn refusal_of(alloc: Global, header: &Header, answer: Answer) -> Result<Option<u64>, NoMemory>
-    ensures { IfOk result (λ refusal. IsRefusal header.now answer refusal) }
+    ensures { IfOk result (λ refusal. IsAnswerRefusal header.now answer refusal) }
 {
     match answer {
         Answer::Message(message) => match opens(header, &message) {
@@ -175,7 +175,7 @@ pub(crate) fn verdict_line(refusal: Option<u64>) -> Line
 /// The status for an answer.
 fn verdict_status(refusal: Option<u64>) -> Status
     ensures value { result ≡ verdict_status refusal }
-    ensures output { kind_of result ≡ output }
+    ensures output { status_kind result ≡ output }
 {
     match refusal {
         Some(_) => Status::Refused,

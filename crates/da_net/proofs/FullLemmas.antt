@@ -10,7 +10,7 @@ use Rattle.axis_roots.proofs.Messages.SetLemmas.{accepted_few}
 use Rattle.repair_queue.specs.Closures.{Covers}
 use Rattle.repair_queue.specs.Settled.{IsSettled}
 use Rattle.repair_queue.specs.Verdicts.{IsFraud, IsFoundClash}
-use Rattle.repair_queue.specs.SessionParts.{SessionParts, StandsFor as SessionStands}
+use Rattle.repair_queue.specs.SessionParts.{SessionParts, SessionStands}
 use Rattle.repair_queue.proofs.Facts.GrowthLemmas.{fraud_grows, clash_grows, settled_same}
 use Rattle.repair_queue.proofs.Facts.SessionLawLemmas.{session_settled, session_same}
 use Rattle.light_node.specs.Events.{NoneAccepted}
@@ -19,8 +19,8 @@ use Rattle.da_net.specs.declared.items.Item.TheVariants as item
 use Rattle.da_net.specs.declared.full.End.{End}
 use Rattle.da_net.specs.declared.full.End.TheVariants as end
 use Rattle.da_net.specs.declared.full.FullNode.{FullNode}
-use Rattle.da_net.specs.Networks.{messages_of, events_of, full, settled, clashing, rejecting, Stands, IsRejecting}
-use Rattle.da_net.specs.Nodes.{HasSpare, standing_by, IsSession, HasSession, IsFullNode, EndsSo, SpareAfter, IsFed}
+use Rattle.da_net.specs.Networks.{messages_of, item_events, full, settled, clashing, rejecting, NodeMayStand, IsRejecting}
+use Rattle.da_net.specs.Nodes.{HasSpareClaim, standing_by, IsNodeSession, HasSession, IsFullNode, EndsSo, SpareAfter, ComesOfFeeding}
 use Rattle.da_net.specs.declared.full.Fed.TheVariants.{On, Ended as Stopped}
 use Rattle.axis_roots.proofs.Messages.ClaimLemmas.{Shape, shape_of}
 use Rattle.da_net.specs.declared.copies.ClaimRoom.{ClaimRoom}
@@ -29,12 +29,12 @@ use Rattle.std.proofs.lemmas.Option.{same_Some}
 use Rattle.da_net.proofs.GrowthLemmas.{messages-message, messages-claim, covers_more, covers_refused, covers_self, none_by_message, none_by_claim}
 
 -- the samples of a session that nothing ended are settled
-pub settled_by : (header : Roots) (ms : List Message) (s : SessionParts) → IsSession header ms s → IsSettled header ms
+pub settled_by : (header : Roots) (ms : List Message) (s : SessionParts) → IsNodeSession header ms s → IsSettled header ms
 settled_by header ms s has = subst (λ (h : Roots). IsSettled h ms) has.header_is (session_settled s ms has.goes_on has.stands)
 
 -- it stands for each list with the same proved samples
-session_covers : (header : Roots) (ms others : List Message) (s : SessionParts) → Covers header ms others → Covers header others ms → IsSession header ms s
-    → IsSession header others s
+session_covers : (header : Roots) (ms others : List Message) (s : SessionParts) → Covers header ms others → Covers header others ms → IsNodeSession header ms s
+    → IsNodeSession header others s
 session_covers header ms others s to from has = record {
   header_is = has.header_is;
   goes_on = has.goes_on;
@@ -55,7 +55,7 @@ module _ (header : Roots) (items : List Item) where
     more_messages = subst (Covers header (messages_of items)) (sym (messages-message items m)) (covers_more header (messages_of items) m)
 
     -- what ended a node does so still
-    ended_by_message : (e : End) → Stands header full items (standing_by (Some e)) → Stands header full (items ++ item.Message m ∷ []) (standing_by (Some e))
+    ended_by_message : (e : End) → NodeMayStand header full items (standing_by (Some e)) → NodeMayStand header full (items ++ item.Message m ∷ []) (standing_by (Some e))
     ended_by_message (end.Clash pair) stands =
         (none_by_message header items m stands.0, clash_grows header (messages_of items) more pair.left pair.right more_messages stands.1)
     ended_by_message (end.Rejected claim) (accepts, inl at) = (accepts, inl (Contains-append_left items (item.Message m ∷ []) (item.Claim claim) at))
@@ -63,8 +63,8 @@ module _ (header : Roots) (items : List Item) where
         (accepts, inr (fraud_grows header (messages_of items) more claim more_messages found))
 
     -- a node that ended
-    ended_node : (o : Option End) (s : Option SessionParts) → is_some o ≡ true → Stands header full items (standing_by o)
-        → Stands header full (items ++ item.Message m ∷ []) (standing_by o) × HasSession header more o s
+    ended_node : (o : Option End) (s : Option SessionParts) → is_some o ≡ true → NodeMayStand header full items (standing_by o)
+        → NodeMayStand header full (items ++ item.Message m ∷ []) (standing_by o) × HasSession header more o s
     ended_node None s some stands = absurd cc
     ended_node (Some e) s some stands = (ended_by_message e stands, tt)
 
@@ -72,8 +72,8 @@ module _ (header : Roots) (items : List Item) where
     full_ended node some is = let both = ended_node node.end node.session some is.stands in record { stands = both.0; session = both.1 }
 
     -- a node whose session goes on, and a sample that isn't proved
-    refused_on : (IsProved header m → ⊥) → (s : Option SessionParts) → Stands header full items settled → HasSession header (messages_of items) None s
-        → Stands header full (items ++ item.Message m ∷ []) settled × HasSession header more None s
+    refused_on : (IsProved header m → ⊥) → (s : Option SessionParts) → NodeMayStand header full items settled → HasSession header (messages_of items) None s
+        → NodeMayStand header full (items ++ item.Message m ∷ []) settled × HasSession header more None s
     refused_on not None stands has = absurd has
     refused_on not (Some s) stands has =
         let back : Covers header more (messages_of items) =
@@ -84,8 +84,8 @@ module _ (header : Roots) (items : List Item) where
         )
 
     -- whatever the node
-    refused_node : (IsProved header m → ⊥) → (o : Option End) (s : Option SessionParts) → Stands header full items (standing_by o)
-        → HasSession header (messages_of items) o s → Stands header full (items ++ item.Message m ∷ []) (standing_by o) × HasSession header more o s
+    refused_node : (IsProved header m → ⊥) → (o : Option End) (s : Option SessionParts) → NodeMayStand header full items (standing_by o)
+        → HasSession header (messages_of items) o s → NodeMayStand header full (items ++ item.Message m ∷ []) (standing_by o) × HasSession header more o s
     refused_node not None s stands has = refused_on not s stands has
     refused_node not (Some e) s stands has = (ended_by_message e stands, tt)
 
@@ -94,22 +94,22 @@ module _ (header : Roots) (items : List Item) where
         let both = refused_node not node.end node.session is.stands is.session in record { stands = both.0; session = both.1 }
 
     -- a session that was fed with it
-    module _ (none : NoneAccepted header (events_of items)) where
+    module _ (none : NoneAccepted header (item_events items)) where
       -- it goes on
-      pub fed_on : (s : SessionParts) → IsSession header (messages_of items ++ m ∷ []) s
+      pub fed_on : (s : SessionParts) → IsNodeSession header (messages_of items ++ m ∷ []) s
           → IsFullNode header (items ++ item.Message m ∷ []) (record { session = Some s; end = None })
       fed_on s has =
-          let here : IsSession header more s = subst (λ (l : List Message). IsSession header l s) (sym (messages-message items m)) has in
+          let here : IsNodeSession header more s = subst (λ (l : List Message). IsNodeSession header l s) (sym (messages-message items m)) has in
           record { stands = (none_by_message header items m none, settled_by header more s here); session = here }
 
       -- or a collision ends it
       pub fed_clash : (left right : List ℕ) → IsFoundClash header (messages_of items ++ m ∷ []) left right
-          → Stands header full (items ++ item.Message m ∷ []) (clashing left right)
+          → NodeMayStand header full (items ++ item.Message m ∷ []) (clashing left right)
       fed_clash left right found =
           (none_by_message header items m none, subst (λ (l : List Message). IsFoundClash header l left right) (sym (messages-message items m)) found)
 
       -- or a fraud
-      pub fed_fraud : (claim : ClaimParts) → IsFraud header (messages_of items ++ m ∷ []) claim → Stands header full (items ++ item.Message m ∷ []) (rejecting claim)
+      pub fed_fraud : (claim : ClaimParts) → IsFraud header (messages_of items ++ m ∷ []) claim → NodeMayStand header full (items ++ item.Message m ∷ []) (rejecting claim)
       fed_fraud claim found = (found.accepts, inr (subst (λ (l : List Message). IsFraud header l claim) (sym (messages-message items m)) found))
 
   -- ---- a claim
@@ -120,13 +120,13 @@ module _ (header : Roots) (items : List Item) where
     same_session o s has = subst (λ (l : List Message). HasSession header l o s) (sym (messages-claim items c)) has
 
     -- who rejected does so still
-    rejects_more : (claim : ClaimParts) → Stands header full items (rejecting claim) → Stands header full (items ++ item.Claim c ∷ []) (rejecting claim)
+    rejects_more : (claim : ClaimParts) → NodeMayStand header full items (rejecting claim) → NodeMayStand header full (items ++ item.Claim c ∷ []) (rejecting claim)
     rejects_more claim (accepts, inl at) = (accepts, inl (Contains-append_left items (item.Claim c ∷ []) (item.Claim claim) at))
     rejects_more claim (accepts, inr found) =
         (accepts, inr (subst (λ (l : List Message). IsFraud header l claim) (sym (messages-claim items c)) found))
 
     -- a claim that isn't accepted changes nothing
-    unaccepted_stands : (Accepts header c → ⊥) → (o : Option End) → Stands header full items (standing_by o) → Stands header full (items ++ item.Claim c ∷ []) (standing_by o)
+    unaccepted_stands : (Accepts header c → ⊥) → (o : Option End) → NodeMayStand header full items (standing_by o) → NodeMayStand header full (items ++ item.Claim c ∷ []) (standing_by o)
     unaccepted_stands not None stands =
         (none_by_claim header items c stands.0 not, subst (IsSettled header) (sym (messages-claim items c)) stands.1)
     unaccepted_stands not (Some (end.Clash pair)) stands =
@@ -140,7 +140,7 @@ module _ (header : Roots) (items : List Item) where
     }
 
     -- who rejected keeps its claim
-    kept_stands : (o : Option End) → IsRejecting (standing_by o) → Stands header full items (standing_by o) → Stands header full (items ++ item.Claim c ∷ []) (standing_by o)
+    kept_stands : (o : Option End) → IsRejecting (standing_by o) → NodeMayStand header full items (standing_by o) → NodeMayStand header full (items ++ item.Claim c ∷ []) (standing_by o)
     kept_stands None rejects stands = absurd rejects
     kept_stands (Some (end.Clash pair)) rejects stands = absurd rejects
     kept_stands (Some (end.Rejected claim)) rejects stands = rejects_more claim stands
@@ -168,20 +168,20 @@ accepted_nodes header claim accepts =
 
 -- what ended a session by its verdict
 pub fed_ended : (header : Roots) (ms : List Message) (old new : Option ClaimRoom) (verdict : VerdictParts) (e : End) → EndsSo verdict e → SpareAfter old new e
-    → IsVerdict header ms verdict → IsFed header ms old new (Stopped e)
+    → IsVerdict header ms verdict → ComesOfFeeding header ms old new (Stopped e)
 fed_ended header ms old new verdict (end.Clash pair) so same is = (subst (IsVerdict header ms) so is, same)
 fed_ended header ms old new verdict (end.Rejected claim) so same is = subst (IsVerdict header ms) so is
 
 -- the session of a node that nothing ended
 session_by : (header : Roots) (items : List Item) (o : Option End) (s : Option SessionParts) (old : SessionParts) → is_some o ≡ false → s ≡ Some old
-    → Stands header full items (standing_by o) → HasSession header (messages_of items) o s
-    → IsSession header (messages_of items) old × NoneAccepted header (events_of items)
+    → NodeMayStand header full items (standing_by o) → HasSession header (messages_of items) o s
+    → IsNodeSession header (messages_of items) old × NoneAccepted header (item_events items)
 session_by header items None None old f e stands has = absurd has
-session_by header items None (Some x) old f e stands has = (subst (IsSession header (messages_of items)) (same_Some x old e) has, stands.0)
+session_by header items None (Some x) old f e stands has = (subst (IsNodeSession header (messages_of items)) (same_Some x old e) has, stands.0)
 session_by header items (Some y) s old f e stands has = absurd cc
 
 pub session_of : (header : Roots) (items : List Item) (node : FullNode) (old : SessionParts) → is_some node.end ≡ false → node.session ≡ Some old
-    → IsFullNode header items node → IsSession header (messages_of items) old × NoneAccepted header (events_of items)
+    → IsFullNode header items node → IsNodeSession header (messages_of items) old × NoneAccepted header (item_events items)
 session_of header items node old f e is = session_by header items node.end node.session old f e is.stands is.session
 
 -- nothing ended it
@@ -192,7 +192,7 @@ none_by (Some x) f = absurd cc
 module _ (header : Roots) (items : List Item) (m : Message) (node : FullNode) (old : SessionParts) (f : is_some node.end ≡ false) (e : node.session ≡ Some old)
     (old_room new_room : Option ClaimRoom) (is : IsFullNode header items node) where
   -- the session goes on
-  pub taken_on : (s : SessionParts) → ((fed : List Message) → SessionStands old fed → IsFed header (fed ++ m ∷ []) old_room new_room (On s))
+  pub taken_on : (s : SessionParts) → ((fed : List Message) → SessionStands old fed → ComesOfFeeding header (fed ++ m ∷ []) old_room new_room (On s))
       → IsFullNode header (items ++ item.Message m ∷ []) (record { session = Some s; end = node.end }) × (new_room ≡ old_room)
   taken_on s fed =
       let both = session_of header items node old f e is in
@@ -203,7 +203,7 @@ module _ (header : Roots) (items : List Item) (m : Message) (node : FullNode) (o
       )
 
   -- or it ended
-  pub taken_end : (s : Option SessionParts) (o : End) → ((fed : List Message) → SessionStands old fed → IsFed header (fed ++ m ∷ []) old_room new_room (Stopped o))
+  pub taken_end : (s : Option SessionParts) (o : End) → ((fed : List Message) → SessionStands old fed → ComesOfFeeding header (fed ++ m ∷ []) old_room new_room (Stopped o))
       → IsFullNode header (items ++ item.Message m ∷ []) (record { session = s; end = Some o })
   taken_end s (end.Clash pair) fed =
       let both = session_of header items node old f e is in
@@ -213,11 +213,11 @@ module _ (header : Roots) (items : List Item) (m : Message) (node : FullNode) (o
       record { stands = fed_fraud header items m both.1 claim (fed (messages_of items) both.0.stands); session = tt }
 
   -- the room for a claim is there still, where it doesn't reject
-  pub room_end : (o : End) → ((fed : List Message) → SessionStands old fed → IsFed header (fed ++ m ∷ []) old_room new_room (Stopped o))
-      → HasSpare header.k old_room → (IsRejecting (standing_by (Some o)) → ⊥) → HasSpare header.k new_room
+  pub room_end : (o : End) → ((fed : List Message) → SessionStands old fed → ComesOfFeeding header (fed ++ m ∷ []) old_room new_room (Stopped o))
+      → HasSpareClaim header.k old_room → (IsRejecting (standing_by (Some o)) → ⊥) → HasSpareClaim header.k new_room
   room_end (end.Clash pair) fed room not =
       let both = session_of header items node old f e is in
-      subst (HasSpare header.k) (sym (fed (messages_of items) both.0.stands).1) room
+      subst (HasSpareClaim header.k) (sym (fed (messages_of items) both.0.stands).1) room
   room_end (end.Rejected claim) fed room not = absurd (not tt)
 
 -- a node that nothing ended doesn't reject

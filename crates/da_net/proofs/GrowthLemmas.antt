@@ -12,7 +12,7 @@ use Rattle.light_node.specs.Events.{NoneAccepted}
 use Rattle.light_node.proofs.EventLemmas.{first_by_sample, none_by_claim as refused_none}
 use Rattle.da_net.specs.declared.items.Item.{Item}
 use Rattle.da_net.specs.declared.items.Item.TheVariants as item
-use Rattle.da_net.specs.Networks.{messages_of, event_of, events_of}
+use Rattle.da_net.specs.Networks.{messages_of, item_event, item_events}
 
 -- ---- lists
 
@@ -29,9 +29,9 @@ messages-claim (item.Message n ∷ items) c = ap (λ (l : List Message). n ∷ l
 messages-claim (item.Claim d ∷ items) c = messages-claim items c
 
 -- one event more
-pub events-push : (items : List Item) (one : Item) → events_of (items ++ one ∷ []) ≡ events_of items ++ event_of one ∷ []
+pub events-push : (items : List Item) (one : Item) → item_events (items ++ one ∷ []) ≡ item_events items ++ item_event one ∷ []
 events-push [] one = refl
-events-push (x ∷ items) one = ap (λ (l : List Event). event_of x ∷ l) (events-push items one)
+events-push (x ∷ items) one = ap (λ (l : List Event). item_event x ∷ l) (events-push items one)
 
 -- ---- what covers what
 
@@ -53,13 +53,13 @@ covers_self header ms m at proved = at
 -- ---- claims
 
 -- after a sample no claim is accepted that wasn't before
-pub none_by_message : (header : Roots) (items : List Item) (m : Message) → NoneAccepted header (events_of items)
-    → NoneAccepted header (events_of (items ++ item.Message m ∷ []))
+pub none_by_message : (header : Roots) (items : List Item) (m : Message) → NoneAccepted header (item_events items)
+    → NoneAccepted header (item_events (items ++ item.Message m ∷ []))
 none_by_message header items m none =
-    subst (NoneAccepted header) (sym (events-push items (item.Message m))) (first_by_sample header (events_of items) m None none)
+    subst (NoneAccepted header) (sym (events-push items (item.Message m))) (first_by_sample header (item_events items) m None none)
 
 -- nor after a claim that isn't
-pub none_by_claim : (header : Roots) (items : List Item) (c : ClaimParts) → NoneAccepted header (events_of items) → (Accepts header c → ⊥)
-    → NoneAccepted header (events_of (items ++ item.Claim c ∷ []))
+pub none_by_claim : (header : Roots) (items : List Item) (c : ClaimParts) → NoneAccepted header (item_events items) → (Accepts header c → ⊥)
+    → NoneAccepted header (item_events (items ++ item.Claim c ∷ []))
 none_by_claim header items c none refused =
-    subst (NoneAccepted header) (sym (events-push items (item.Claim c))) (refused_none header (events_of items) c none refused)
+    subst (NoneAccepted header) (sym (events-push items (item.Claim c))) (refused_none header (item_events items) c none refused)

@@ -16,7 +16,7 @@ use Rattle.da_net.specs.declared.items.Item.{Item}
 use Rattle.da_net.specs.declared.items.Item.TheVariants as item
 use Rattle.da_net.specs.declared.items.Kept.{Kept}
 use Rattle.da_net.specs.declared.items.Kept.TheVariants as kept
-use Rattle.da_net.specs.Networks.{messages_of, event_of, events_of, IsItem, Network, handed_by, handed, IsRun, start, put, hand, publish}
+use Rattle.da_net.specs.Networks.{messages_of, item_event, item_events, IsNetItem, Network, handed_by, handed, IsRun, start, put, hand, publish}
 use Rattle.da_net.specs.Promises.{WasHanded}
 
 -- ---- items, samples and events
@@ -34,35 +34,35 @@ claim_apart : (c : ClaimParts) (m : Message) → item.Claim c ≡ item.Message m
 claim_apart c m e = cc
 
 -- two claims that are one event are one item
-event_claim : (one : Item) (c : ClaimParts) → event_of one ≡ event.Claim c → one ≡ item.Claim c
+event_claim : (one : Item) (c : ClaimParts) → item_event one ≡ event.Claim c → one ≡ item.Claim c
 event_claim (item.Message m) c e = absurd cc
 event_claim (item.Claim d) c e = let same : d ≡ c = cc in ap (λ (x : ClaimParts). item.Claim x) same
 
 -- an item whose event is a sample is this sample
-event_sample : (one : Item) (m : Message) → event_of one ≡ event.Sample m → one ≡ item.Message m
+event_sample : (one : Item) (m : Message) → item_event one ≡ event.Sample m → one ≡ item.Message m
 event_sample (item.Message n) m e = let same : n ≡ m = cc in ap (λ (x : Message). item.Message x) same
 event_sample (item.Claim d) m e = absurd cc
 
 -- an item is among the items of its event
-pub event_there : (items : List Item) (one : Item) → Contains items one → Contains (events_of items) (event_of one)
+pub event_there : (items : List Item) (one : Item) → Contains items one → Contains (item_events items) (item_event one)
 event_there [] one at = absurd (contains_none one at)
 event_there (x ∷ items) one at = elim (contains_cons x one items at) [
-  | inl e ↦ subst (λ (y : Item). Contains (event_of x ∷ events_of items) (event_of y)) e (contains_head (event_of x) (events_of items))
-  | inr later ↦ contains_tail (event_of x) (event_of one) (events_of items) (event_there items one later)
+  | inl e ↦ subst (λ (y : Item). Contains (item_event x ∷ item_events items) (item_event y)) e (contains_head (item_event x) (item_events items))
+  | inr later ↦ contains_tail (item_event x) (item_event one) (item_events items) (event_there items one later)
 ]
 
 -- a claim among the events is among the items
-pub claim_back : (items : List Item) (c : ClaimParts) → Contains (events_of items) (event.Claim c) → Contains items (item.Claim c)
+pub claim_back : (items : List Item) (c : ClaimParts) → Contains (item_events items) (event.Claim c) → Contains items (item.Claim c)
 claim_back [] c at = absurd (contains_none (event.Claim c) at)
-claim_back (x ∷ items) c at = elim (contains_cons (event_of x) (event.Claim c) (events_of items) at) [
+claim_back (x ∷ items) c at = elim (contains_cons (item_event x) (event.Claim c) (item_events items) at) [
   | inl e ↦ subst (λ (y : Item). Contains (x ∷ items) y) (event_claim x c e) (contains_head x items)
   | inr later ↦ contains_tail x (item.Claim c) items (claim_back items c later)
 ]
 
 -- a sample among the events is among the items
-pub sample_back : (items : List Item) (m : Message) → Contains (events_of items) (event.Sample m) → Contains items (item.Message m)
+pub sample_back : (items : List Item) (m : Message) → Contains (item_events items) (event.Sample m) → Contains items (item.Message m)
 sample_back [] m at = absurd (contains_none (event.Sample m) at)
-sample_back (x ∷ items) m at = elim (contains_cons (event_of x) (event.Sample m) (events_of items) at) [
+sample_back (x ∷ items) m at = elim (contains_cons (item_event x) (event.Sample m) (item_events items) at) [
   | inl e ↦ subst (λ (y : Item). Contains (x ∷ items) y) (event_sample x m e) (contains_head x items)
   | inr later ↦ contains_tail x (item.Message m) items (sample_back items m later)
 ]
@@ -187,7 +187,7 @@ pub pool_messages : (net : Network) (pool : List Item) (steps : List Kept) → I
 pool_messages net pool steps start m at = absurd (contains_none (item.Message m) at)
 pool_messages net pool steps (put before done one run is) m at = elim (Contains-push_cases before one (item.Message m) at) [
   | inl old ↦ pool_messages net before done run m old
-  | inr e ↦ subst IsItem e is
+  | inr e ↦ subst IsNetItem e is
 ]
 pool_messages net pool steps (hand before done here to run within is) m at = pool_messages net before done run m at
 pool_messages net pool steps (publish before done by kind claim run is stands) m at =

@@ -13,12 +13,12 @@ use Rattle.light_node.specs.declared.events.Event.TheVariants as event
 use Rattle.light_node.specs.declared.events.Light.{Light}
 use Rattle.light_node.specs.declared.events.Light.TheVariants as light
 use Rattle.light_node.specs.Events.{IsFirstAccepted, IsLight}
-use Rattle.light_node.specs.Nodes.{NodeParts, StandsFor}
+use Rattle.light_node.specs.Nodes.{NodeParts, NodeStands}
 use Rattle.da_net.specs.declared.items.Item.{Item}
 use Rattle.da_net.specs.declared.items.Item.TheVariants as item
 use Rattle.da_net.specs.declared.copies.ClaimRoom.{ClaimRoom}
-use Rattle.da_net.specs.Networks.{event_of, events_of}
-use Rattle.da_net.specs.Nodes.{IsSpare, HasSpare, IsLightNode, Rejects, IsLightStep}
+use Rattle.da_net.specs.Networks.{item_event, item_events}
+use Rattle.da_net.specs.Nodes.{IsSpareClaim, HasSpareClaim, IsLightNode, Rejects, IsLightStep}
 use Rattle.light_node.proofs.EventLemmas.{first_kept}
 use Rattle.light_node.proofs.StandingLemmas.{stands_refused, stands_later}
 use Rattle.da_net.proofs.GrowthLemmas.{events-push}
@@ -28,20 +28,20 @@ module _ {F : Type 0} (picks : F → ℕ → Cell → Type 0) (header : Roots) (
     (c : ClaimParts) where
   -- its events with one claim more
   abbrev more : List Event
-  more = events_of items ++ event.Claim c ∷ []
+  more = item_events items ++ event.Claim c ∷ []
 
   -- it stands for one claim more, where it does so for these events
-  light_more : StandsFor picks node is.plan more → IsLightNode picks header (items ++ item.Claim c ∷ []) node
+  light_more : NodeStands picks node is.plan more → IsLightNode picks header (items ++ item.Claim c ∷ []) node
   light_more stands = record {
     header_is = is.header_is;
     plan = is.plan;
-    stands = subst (StandsFor picks node is.plan) (sym (events-push items (item.Claim c))) stands;
+    stands = subst (NodeStands picks node is.plan) (sym (events-push items (item.Claim c))) stands;
   }
 
   -- who rejected keeps its claim
-  stands_kept : (kept : Option ClaimParts) → node.claim ≡ kept → Rejects kept → StandsFor picks node is.plan more
+  stands_kept : (kept : Option ClaimParts) → node.claim ≡ kept → Rejects kept → NodeStands picks node is.plan more
   stands_kept None e rejects = absurd rejects
-  stands_kept (Some first) e rejects = stands_later picks node is.plan (events_of items) c is.stands first e
+  stands_kept (Some first) e rejects = stands_later picks node is.plan (item_events items) c is.stands first e
 
   pub light_kept : Rejects node.claim → IsLightNode picks header (items ++ item.Claim c ∷ []) node
   light_kept rejects = light_more (stands_kept node.claim refl rejects)
@@ -49,13 +49,13 @@ module _ {F : Type 0} (picks : F → ℕ → Cell → Type 0) (header : Roots) (
   -- a claim that isn't accepted changes nothing
   pub light_unaccepted : (Accepts header c → ⊥) → IsLightNode picks header (items ++ item.Claim c ∷ []) node
   light_unaccepted not =
-      light_more (stands_refused picks node is.plan (events_of items) c is.stands (subst (λ (h : Roots). Accepts h c → ⊥) (sym is.header_is) not))
+      light_more (stands_refused picks node is.plan (item_events items) c is.stands (subst (λ (h : Roots). Accepts h c → ⊥) (sym is.header_is) not))
 
 -- ---- a step
 
 -- the same cells are wanted, of one plan
 pub same_wanted : {F : Type 0} (picks : F → ℕ → Cell → Type 0) (old new : NodeParts F) (plan : List Cell) (before after : List Event)
-    → StandsFor picks old plan before → StandsFor picks new plan after → new.wanted ≡ old.wanted
+    → NodeStands picks old plan before → NodeStands picks new plan after → new.wanted ≡ old.wanted
 same_wanted picks old new plan before after one two = two.wanted ∙ sym one.wanted
 
 -- the first accepted claim is among the events
@@ -81,29 +81,29 @@ module _ (once : (header : Roots) (plan : List Cell) (events : List Event) (one 
   -- a light node that was handed one item more as an event
   pub light_step : {F : Type 0} (picks : F → ℕ → Cell → Type 0) (header : Roots) (items : List Item) (one : Item) (old new : NodeParts F)
       → (is : IsLightNode picks header items old) → new.header ≡ old.header
-      → ((plan : List Cell) (events : List Event) → StandsFor picks old plan events → StandsFor picks new plan (events ++ event_of one ∷ []))
+      → ((plan : List Cell) (events : List Event) → NodeStands picks old plan events → NodeStands picks new plan (events ++ item_event one ∷ []))
       → IsLightStep picks header (items ++ one ∷ []) old new
   light_step picks header items one old new is same stands =
-      let after : StandsFor picks new is.plan (events_of items ++ event_of one ∷ []) = stands is.plan (events_of items) is.stands in record {
+      let after : NodeStands picks new is.plan (item_events items ++ item_event one ∷ []) = stands is.plan (item_events items) is.stands in record {
         node = record {
           header_is = same ∙ is.header_is;
           plan = is.plan;
-          stands = subst (StandsFor picks new is.plan) (sym (events-push items one)) after;
+          stands = subst (NodeStands picks new is.plan) (sym (events-push items one)) after;
         };
-        wanted = same_wanted picks old new is.plan (events_of items) (events_of items ++ event_of one ∷ []) is.stands after;
+        wanted = same_wanted picks old new is.plan (item_events items) (item_events items ++ item_event one ∷ []) is.stands after;
         keeps = λ claim e.
-            same_first old.header (events_of items) (event_of one) new.claim claim
-            (subst (IsFirstAccepted old.header (events_of items)) e is.stands.claim)
-            (subst (λ (h : Roots). IsFirstAccepted h (events_of items ++ event_of one ∷ []) new.claim) same after.claim);
+            same_first old.header (item_events items) (item_event one) new.claim claim
+            (subst (IsFirstAccepted old.header (item_events items)) e is.stands.claim)
+            (subst (λ (h : Roots). IsFirstAccepted h (item_events items ++ item_event one ∷ []) new.claim) same after.claim);
       }
 
 -- an accepted claim that was handed makes a light node reject
 pub light_rejects : {F : Type 0} (picks : F → ℕ → Cell → Type 0) (header : Roots) (items : List Item) (node : NodeParts F) (claim : ClaimParts)
     → IsLightNode picks header items node → Contains items (item.Claim claim) → Accepts header claim → Rejects node.claim
 light_rejects picks header items node claim is at accepts =
-    by_claim node.claim (subst (λ (h : Roots). IsFirstAccepted h (events_of items) node.claim) is.header_is is.stands.claim)
+    by_claim node.claim (subst (λ (h : Roots). IsFirstAccepted h (item_events items) node.claim) is.header_is is.stands.claim)
   where
-    by_claim : (kept : Option ClaimParts) → IsFirstAccepted header (events_of items) kept → Rejects kept
+    by_claim : (kept : Option ClaimParts) → IsFirstAccepted header (item_events items) kept → Rejects kept
     by_claim None none = none claim (event_there items (item.Claim claim) at) accepts
     by_claim (Some other) first = tt
 
@@ -125,9 +125,9 @@ module _ (header : Roots) (events : List Event) where
   missing_rejects (Some r) kept none found first rejects = absurd cc
 
 -- a room that is there
-pub spare_some : (k : ℕ) (room : Option ClaimRoom) → HasSpare k room → is_some room ≡ true
+pub spare_some : (k : ℕ) (room : Option ClaimRoom) → HasSpareClaim k room → is_some room ≡ true
 spare_some k None spare = absurd spare
 spare_some k (Some cells) spare = refl
 
-pub spare_is : (k : ℕ) (room : Option ClaimRoom) (cells : ClaimRoom) → room ≡ Some cells → HasSpare k room → IsSpare k cells
-spare_is k room cells e spare = subst (HasSpare k) e spare
+pub spare_is : (k : ℕ) (room : Option ClaimRoom) (cells : ClaimRoom) → room ≡ Some cells → HasSpareClaim k room → IsSpareClaim k cells
+spare_is k room cells e spare = subst (HasSpareClaim k) e spare

@@ -7,8 +7,8 @@ use Rattle.namespace_id.proofs.MemberLemmas.{contains_none, contains_cons}
 use Rattle.data_header.specs.Headers.{Roots}
 use Rattle.axis_roots.specs.Claims.{ClaimParts}
 use Rattle.repair_queue.specs.declared.fed.SessionState.TheVariants as state
-use Rattle.repair_queue.specs.SessionParts.{SessionParts, StandsFor as SessionStands}
-use Rattle.repair_queue.specs.Sessions.{state_of}
+use Rattle.repair_queue.specs.SessionParts.{SessionParts, SessionStands}
+use Rattle.repair_queue.specs.Sessions.{session_state}
 use Rattle.light_node.specs.declared.events.Event.{Event}
 use Rattle.light_node.specs.declared.events.Event.TheVariants as event
 use Rattle.light_node.specs.Events.{IsFirstAccepted}
@@ -17,19 +17,19 @@ use Rattle.light_node.proofs.ListLemmas.{listed_at}
 use Rattle.da_net.specs.declared.seats.Node.TheVariants.{Full, Light}
 use Rattle.da_net.specs.declared.seats.Seat.{Seat}
 use Rattle.da_net.specs.declared.copies.ClaimRoom.{ClaimRoom}
-use Rattle.da_net.specs.Networks.{Kind, full, light, Standing, start}
-use Rattle.da_net.specs.Nodes.{HasSpare, IsSession, IsFresh}
-use Rattle.da_net.specs.Nets.{claim_in}
-use Rattle.da_net.specs.Seats.{kind_of, alarm_with, alarm_of, HasSpareFor, IsFreshSeat, IsNet}
+use Rattle.da_net.specs.Networks.{NodeKind, full, light, Standing, start}
+use Rattle.da_net.specs.Nodes.{HasSpareClaim, IsNodeSession, IsFreshNode}
+use Rattle.da_net.specs.Nets.{rejecting_claim}
+use Rattle.da_net.specs.Seats.{node_kind, alarm_with, alarm_of, HasSpareFor, IsFreshSeat, IsNet}
 use Rattle.da_net.proofs.FullLemmas.{settled_by}
 use Rattle.da_net.proofs.NetLemmas.{seen}
 
 -- the seat of a full node
 pub fresh_full : {F : Type 0} (picks : F → ℕ → Cell → Type 0) (header : Roots) (s : SessionParts) (kept published : Option ClaimRoom)
-    → s.header ≡ header → state_of s ≡ state.Open → SessionStands s [] → HasSpare header.k kept → HasSpare header.k published
+    → s.header ≡ header → session_state s ≡ state.Open → SessionStands s [] → HasSpareClaim header.k kept → HasSpareClaim header.k published
     → IsFreshSeat {F = F} picks header full (record { node = Full (record { session = Some s; end = None }); kept = kept; published = published })
 fresh_full picks header s kept published same goes stands spare other =
-    let has : IsSession header [] s = record { header_is = same; goes_on = goes; stands = stands } in record {
+    let has : IsNodeSession header [] s = record { header_is = same; goes_on = goes; stands = stands } in record {
       seat_is = record {
         is_node = record {
           stands = (λ claim at accepts. contains_none (event.Claim claim) at, settled_by header [] s has);
@@ -53,13 +53,13 @@ no_claim header (Some claim) (accepts, before, after, is, none) = absurd (empty 
 
 -- the seat of a light node
 pub fresh_light : {F : Type 0} (picks : F → ℕ → Cell → Type 0) (header : Roots) (node : NodeParts F) (kept published : Option ClaimRoom)
-    → IsFresh picks header node → HasSpare header.k kept → HasSpare header.k published
+    → IsFreshNode picks header node → HasSpareClaim header.k kept → HasSpareClaim header.k published
     → IsFreshSeat picks header (light node.wanted) (record { node = Light node; kept = kept; published = published })
 fresh_light picks header node kept published (same, plan, stands) spare other =
     let none : node.claim ≡ None = no_claim node.header node.claim stands.claim in record {
       seat_is = record {
         is_node = record { header_is = same; plan = plan; stands = stands };
-        spare = subst (λ (o : Option ClaimParts). HasSpareFor header.k (claim_in (alarm_with o)) kept) (sym none) spare;
+        spare = subst (λ (o : Option ClaimParts). HasSpareFor header.k (rejecting_claim (alarm_with o)) kept) (sym none) spare;
       };
       kind_is = refl;
       calm = ap alarm_with none;
@@ -74,14 +74,14 @@ zip_same R xs others ys e zip = subst (λ (l : List _). AllZip R l ys) e zip
 
 module _ {F : Type 0} (picks : F → ℕ → Cell → Type 0) (header : Roots) where
   -- their kinds
-  fresh_kinds : (kinds : List Kind) (seats : List (Seat F)) → AllZip (IsFreshSeat picks header) kinds seats → map (λ (s : Seat F). kind_of s.node) seats ≡ kinds
+  fresh_kinds : (kinds : List NodeKind) (seats : List (Seat F)) → AllZip (IsFreshSeat picks header) kinds seats → map (λ (s : Seat F). node_kind s.node) seats ≡ kinds
   fresh_kinds [] [] zip = refl
   fresh_kinds [] (s ∷ seats) zip = absurd zip
   fresh_kinds (k ∷ kinds) [] zip = absurd zip
-  fresh_kinds (k ∷ kinds) (s ∷ seats) zip = ap₂ (λ (x : Kind) (l : List Kind). x ∷ l) zip.0.kind_is (fresh_kinds kinds seats zip.1)
+  fresh_kinds (k ∷ kinds) (s ∷ seats) zip = ap₂ (λ (x : NodeKind) (l : List NodeKind). x ∷ l) zip.0.kind_is (fresh_kinds kinds seats zip.1)
 
   -- nothing alarmed them
-  fresh_alarms : (kinds : List Kind) (seats : List (Seat F)) → AllZip (IsFreshSeat picks header) kinds seats
+  fresh_alarms : (kinds : List NodeKind) (seats : List (Seat F)) → AllZip (IsFreshSeat picks header) kinds seats
       → map (λ (s : Seat F). alarm_of s.node) seats ≡ replicate (length kinds) None
   fresh_alarms [] [] zip = refl
   fresh_alarms [] (s ∷ seats) zip = absurd zip
@@ -90,8 +90,8 @@ module _ {F : Type 0} (picks : F → ℕ → Cell → Type 0) (header : Roots) w
       ap₂ (λ (x : Option Standing) (l : List (Option Standing)). x ∷ l) zip.0.calm (fresh_alarms kinds seats zip.1)
 
   -- each is fresh
-  each_fresh : (kinds : List Kind) (seats : List (Seat F)) → AllZip (IsFreshSeat picks header) kinds seats → (seat : Seat F) → Contains seats seat
-      → (kind : Kind) × IsFreshSeat picks header kind seat
+  each_fresh : (kinds : List NodeKind) (seats : List (Seat F)) → AllZip (IsFreshSeat picks header) kinds seats → (seat : Seat F) → Contains seats seat
+      → (kind : NodeKind) × IsFreshSeat picks header kind seat
   each_fresh kinds [] zip seat at = absurd (contains_none seat at)
   each_fresh [] (s ∷ seats) zip seat at = absurd zip
   each_fresh (k ∷ kinds) (s ∷ seats) zip seat at = elim (contains_cons s seat seats at) [
@@ -100,7 +100,7 @@ module _ {F : Type 0} (picks : F → ℕ → Cell → Type 0) (header : Roots) w
   ]
 
   -- they are a network in which nothing has happened
-  pub fresh_net : (kinds : List Kind) (seats : List (Seat F)) → AllZip (IsFreshSeat picks header) kinds seats → IsNet picks header seats [] []
+  pub fresh_net : (kinds : List NodeKind) (seats : List (Seat F)) → AllZip (IsFreshSeat picks header) kinds seats → IsNet picks header seats [] []
   fresh_net kinds seats zip = record {
     run = start;
     seated = λ node seat at. (each_fresh kinds seats zip seat (listed_at seats node seat at)).1.seat_is;
@@ -109,7 +109,7 @@ module _ {F : Type 0} (picks : F → ℕ → Cell → Type 0) (header : Roots) w
   }
 
   -- as contracts see it
-  pub fresh_seen : (kinds : List Kind) (seats : List (Seat F)) (most_items most_steps : ℕ) → AllZip (IsFreshSeat picks header) kinds seats
+  pub fresh_seen : (kinds : List NodeKind) (seats : List (Seat F)) (most_items most_steps : ℕ) → AllZip (IsFreshSeat picks header) kinds seats
       → seen header seats most_items most_steps [] [] ≡ record {
         header = header;
         nodes = kinds;
@@ -120,7 +120,7 @@ module _ {F : Type 0} (picks : F → ℕ → Cell → Type 0) (header : Roots) w
         steps = [];
       }
   fresh_seen kinds seats most_items most_steps zip =
-      ap₂ (λ (n : List Kind) (a : List (Option Standing)). record {
+      ap₂ (λ (n : List NodeKind) (a : List (Option Standing)). record {
         header = header;
         nodes = n;
         alarms = a;

@@ -23,11 +23,11 @@ use Rattle.da_net.specs.declared.seats.Node.{Node}
 use Rattle.da_net.specs.declared.seats.Node.TheVariants.{Full, Light}
 use Rattle.da_net.specs.declared.seats.Seat.{Seat}
 use Rattle.da_net.specs.declared.seats.Entry.{Entry}
-use Rattle.da_net.specs.Networks.{IsItem, events_of, Kind, full, Network, Standing, settled, clashing, waiting, available, rejecting, Stands, handed_by, handed, IsRun, put, hand, publish}
+use Rattle.da_net.specs.Networks.{IsNetItem, item_events, NodeKind, full, Network, Standing, settled, clashing, waiting, available, rejecting, NodeMayStand, handed_by, handed, IsRun, put, hand, publish}
 use Rattle.da_net.specs.Nodes.{standing_by}
 use Rattle.da_net.specs.declared.items.NetEvent.{NetEvent}
-use Rattle.da_net.specs.Nets.{is_full, is_pooling, has_claim, NetParts, AfterClash, alarm_at, Fits, HasState, state_of, claim_in, is_publishing, IsHanded, IsPooled}
-use Rattle.da_net.specs.Seats.{kind_of, alarm_by, alarm_with, alarm_of, IsNodeFor, HasSpareFor, HasUnpublished, IsSeat, IsSeatStep, SeatStands, IsJudged, items_in, network_with, IsNet, IsCopied}
+use Rattle.da_net.specs.Nets.{is_full, is_pooling, has_claim, NetParts, AfterClash, alarm_at, FitsAlarm, HasState, standing_state, rejecting_claim, is_publishing, IsHanded, IsPooled}
+use Rattle.da_net.specs.Seats.{node_kind, alarm_by, alarm_with, alarm_of, IsNodeFor, HasSpareFor, HasUnpublished, IsSeat, IsSeatStep, SeatStands, IsJudgedEntry, pool_items, network_with, IsNet, IsCopied}
 use Rattle.da_net.proofs.HandedLemmas.{handed-append, handed-grown, hands_within, step_hands}
 use Rattle.light_node.specs.Events.{IsFirstAccepted}
 use Rattle.da_net.specs.declared.copies.ClaimRoom.{ClaimRoom}
@@ -77,20 +77,20 @@ slice_get-push_cases xs x y i e = elim (slice_get_cases xs i).1 [
 module _ {F : Type 0} (picks : F → ℕ → Cell → Type 0) (header : Roots) (seats : List (Seat F)) (pool : List Entry) (steps : List Kept)
     (is : IsNet picks header seats pool steps) where
   -- the items of the pool with one more
-  items-push : (entry : Entry) → items_in (pool ++ entry ∷ []) ≡ items_in pool ++ entry.item ∷ []
+  items-push : (entry : Entry) → pool_items (pool ++ entry ∷ []) ≡ pool_items pool ++ entry.item ∷ []
   items-push entry = map-append (λ (e : Entry). e.item) pool (entry ∷ [])
 
   -- a step that hands nothing
-  handed_same : (later : List Item) (step : Kept) (node : ℕ) → handed_by (items_in pool ++ later) step node ≡ []
-      → handed (items_in pool ++ later) (steps ++ step ∷ []) node ≡ handed (items_in pool) steps node
+  handed_same : (later : List Item) (step : Kept) (node : ℕ) → handed_by (pool_items pool ++ later) step node ≡ []
+      → handed (pool_items pool ++ later) (steps ++ step ∷ []) node ≡ handed (pool_items pool) steps node
   handed_same later step node none =
-      handed-append (items_in pool ++ later) steps (step ∷ []) node
-      ∙ ap₂ (λ (l r : List Item). l ++ (r ++ [])) (handed-grown (items_in pool) later steps node (hands_within (network_with header seats) (items_in pool) steps is.run)) none
-      ∙ append-nil (handed (items_in pool) steps node)
+      handed-append (pool_items pool ++ later) steps (step ∷ []) node
+      ∙ ap₂ (λ (l r : List Item). l ++ (r ++ [])) (handed-grown (pool_items pool) later steps node (hands_within (network_with header seats) (pool_items pool) steps is.run)) none
+      ∙ append-nil (handed (pool_items pool) steps node)
 
   -- a seat of a network
   seat_there : (later : List Item) (step : Kept) (node : ℕ) (seat : Seat F) → slice_get seats node ≡ Some seat
-      → handed_by (items_in pool ++ later) step node ≡ [] → IsSeat picks header (handed (items_in pool ++ later) (steps ++ step ∷ []) node) seat
+      → handed_by (pool_items pool ++ later) step node ≡ [] → IsSeat picks header (handed (pool_items pool ++ later) (steps ++ step ∷ []) node) seat
   seat_there later step node seat at none =
       subst (λ (l : List Item). IsSeat picks header l seat) (sym (handed_same later step node none)) (is.seated node seat at)
 
@@ -104,17 +104,17 @@ module _ {F : Type 0} (picks : F → ℕ → Cell → Type 0) (header : Roots) (
       or_false false = refl
 
   -- the judgements stay
-  judged_more : (entry : Entry) → IsJudged header entry → (place : ℕ) (one : Entry) → slice_get (pool ++ entry ∷ []) place ≡ Some one → IsJudged header one
+  judged_more : (entry : Entry) → IsJudgedEntry header entry → (place : ℕ) (one : Entry) → slice_get (pool ++ entry ∷ []) place ≡ Some one → IsJudgedEntry header one
   judged_more entry judged place one at = elim (slice_get-push_cases pool entry one place at) [
     | inl before ↦ is.judged place one before
-    | inr e ↦ subst (IsJudged header) e judged
+    | inr e ↦ subst (IsJudgedEntry header) e judged
   ]
 
   -- an item is put into the pool
-  pub net_put : (entry : Entry) → IsItem entry.item → IsJudged header entry → IsNet picks header seats (pool ++ entry ∷ []) (steps ++ kept.Put ∷ [])
+  pub net_put : (entry : Entry) → IsNetItem entry.item → IsJudgedEntry header entry → IsNet picks header seats (pool ++ entry ∷ []) (steps ++ kept.Put ∷ [])
   net_put entry shape judged = record {
     run = subst (λ (l : List Item). IsRun (network_with header seats) l (steps ++ kept.Put ∷ [])) (sym (items-push entry))
-        (put (items_in pool) steps entry.item is.run shape);
+        (put (pool_items pool) steps entry.item is.run shape);
     seated = λ node seat at.
         subst (λ (l : List Item). IsSeat picks header (handed l (steps ++ kept.Put ∷ []) node) seat) (sym (items-push entry))
         (seat_there (entry.item ∷ []) kept.Put node seat at refl);
@@ -131,11 +131,11 @@ module _ {F : Type 0} (picks : F → ℕ → Cell → Type 0) (header : Roots) (
     within_seats = slice_get_within seats to old at
 
     -- the nodes are of their kinds
-    pub same_network : kind_of new.node ≡ kind_of old.node → network_with {F = F} header (set seats to new) ≡ network_with header seats
-    same_network e = ap (λ (l : List Kind). record { header = header; nodes = l })
-        (map-set_at (λ (seat : Seat F). kind_of seat.node) seats to new old at e)
+    pub same_network : node_kind new.node ≡ node_kind old.node → network_with {F = F} header (set seats to new) ≡ network_with header seats
+    same_network e = ap (λ (l : List NodeKind). record { header = header; nodes = l })
+        (map-set_at (λ (seat : Seat F). node_kind seat.node) seats to new old at e)
       where
-        map-set_at : (f : Seat F → Kind) (xs : List (Seat F)) (i : ℕ) (x y : Seat F) → slice_get xs i ≡ Some y → f x ≡ f y → map f (set xs i x) ≡ map f xs
+        map-set_at : (f : Seat F → NodeKind) (xs : List (Seat F)) (i : ℕ) (x y : Seat F) → slice_get xs i ≡ Some y → f x ≡ f y → map f (set xs i x) ≡ map f xs
         map-set_at f xs i x y there same = map-set_same f xs i x y (same ∙ ap f (sym (get_or_from_slice_get xs i y y there)))
 
     -- which seat this is
@@ -151,21 +151,21 @@ module _ {F : Type 0} (picks : F → ℕ → Cell → Type 0) (header : Roots) (
     ]
 
     -- an item is handed to the node
-    module _ (place : ℕ) (entry : Entry) (there : slice_get pool place ≡ Some entry) (step : IsSeatStep picks header (handed (items_in pool) steps to ++ entry.item ∷ []) old new) where
+    module _ (place : ℕ) (entry : Entry) (there : slice_get pool place ≡ Some entry) (step : IsSeatStep picks header (handed (pool_items pool) steps to ++ entry.item ∷ []) old new) where
       -- it is an item of the pool
-      item_there : slice_get (items_in pool) place ≡ Some entry.item
+      item_there : slice_get (pool_items pool) place ≡ Some entry.item
       item_there = slice_get-map (λ (e : Entry). e.item) pool place ∙ ap (option_map (λ (e : Entry). e.item)) there
 
       -- the node got it
-      pub handed_it : handed (items_in pool) (steps ++ kept.Hand place to ∷ []) to ≡ handed (items_in pool) steps to ++ entry.item ∷ []
-      handed_it = handed-append (items_in pool) steps (kept.Hand place to ∷ []) to
-          ∙ ap (λ (l : List Item). handed (items_in pool) steps to ++ (l ++ [])) (step_hands (items_in pool) place to entry.item item_there)
+      pub handed_it : handed (pool_items pool) (steps ++ kept.Hand place to ∷ []) to ≡ handed (pool_items pool) steps to ++ entry.item ∷ []
+      handed_it = handed-append (pool_items pool) steps (kept.Hand place to ∷ []) to
+          ∙ ap (λ (l : List Item). handed (pool_items pool) steps to ++ (l ++ [])) (step_hands (pool_items pool) place to entry.item item_there)
 
       -- and no other
-      handed_not : (node : ℕ) → node ≢ to → handed (items_in pool) (steps ++ kept.Hand place to ∷ []) node ≡ handed (items_in pool) steps node
-      handed_not node ne = handed-append (items_in pool) steps (kept.Hand place to ∷ []) node
-          ∙ ap (λ (b : Bool). handed (items_in pool) steps node ++ (cond b (option_to_list (slice_get (items_in pool) place)) [] ++ [])) (apart to node (λ e. ne (sym e)))
-          ∙ append-nil (handed (items_in pool) steps node)
+      handed_not : (node : ℕ) → node ≢ to → handed (pool_items pool) (steps ++ kept.Hand place to ∷ []) node ≡ handed (pool_items pool) steps node
+      handed_not node ne = handed-append (pool_items pool) steps (kept.Hand place to ∷ []) node
+          ∙ ap (λ (b : Bool). handed (pool_items pool) steps node ++ (cond b (option_to_list (slice_get (pool_items pool) place)) [] ++ [])) (apart to node (λ e. ne (sym e)))
+          ∙ append-nil (handed (pool_items pool) steps node)
         where
           apart : (a b : ℕ) → a ≢ b → (a == b) ≡ false
           apart a b ne = elim (eqb_tells a b) [
@@ -175,14 +175,14 @@ module _ {F : Type 0} (picks : F → ℕ → Cell → Type 0) (header : Roots) (
 
       pub net_hand : IsNet picks header (set seats to new) pool (steps ++ kept.Hand place to ∷ [])
       net_hand = record {
-        run = subst (λ (n : Network). IsRun n (items_in pool) (steps ++ kept.Hand place to ∷ [])) (sym (same_network step.kind))
-            (hand (items_in pool) steps place to is.run (slice_get_within (items_in pool) place entry.item item_there)
-            (slice_get_within (network_with header seats).nodes to (kind_of old.node) (slice_get-map (λ (seat : Seat F). kind_of seat.node) seats to
-            ∙ ap (option_map (λ (seat : Seat F). kind_of seat.node)) at)));
+        run = subst (λ (n : Network). IsRun n (pool_items pool) (steps ++ kept.Hand place to ∷ [])) (sym (same_network step.kind))
+            (hand (pool_items pool) steps place to is.run (slice_get_within (pool_items pool) place entry.item item_there)
+            (slice_get_within (network_with header seats).nodes to (node_kind old.node) (slice_get-map (λ (seat : Seat F). node_kind seat.node) seats to
+            ∙ ap (option_map (λ (seat : Seat F). node_kind seat.node)) at)));
         seated = λ node seat e. elim (seat_cases node seat e) [
           | inl same ↦
-              subst (λ (s : Seat F). IsSeat picks header (handed (items_in pool) (steps ++ kept.Hand place to ∷ []) node) s) same.1
-              (subst (λ (n : ℕ). IsSeat picks header (handed (items_in pool) (steps ++ kept.Hand place to ∷ []) n) new) (sym same.0)
+              subst (λ (s : Seat F). IsSeat picks header (handed (pool_items pool) (steps ++ kept.Hand place to ∷ []) node) s) same.1
+              (subst (λ (n : ℕ). IsSeat picks header (handed (pool_items pool) (steps ++ kept.Hand place to ∷ []) n) new) (sym same.0)
               (subst (λ (l : List Item). IsSeat picks header l new) (sym handed_it) step.seat))
           | inr other ↦
               subst (λ (l : List Item). IsSeat picks header l seat) (sym (handed_not node other.0)) (is.seated node seat other.1)
@@ -204,11 +204,11 @@ module _ {F : Type 0} (picks : F → ℕ → Cell → Type 0) (header : Roots) (
 abbrev pub seen : {F : Type 0} → Roots → List (Seat F) → ℕ → ℕ → List Entry → List Kept → NetParts
 seen header seats most_items most_steps pool steps = record {
   header = header;
-  nodes = map (λ seat. kind_of seat.node) seats;
+  nodes = map (λ seat. node_kind seat.node) seats;
   alarms = map (λ seat. alarm_of seat.node) seats;
   most_items = most_items;
   most_steps = most_steps;
-  pool = items_in pool;
+  pool = pool_items pool;
   steps = steps;
 }
 
@@ -230,7 +230,7 @@ room_for_item net one free pools = elim (cases_Bool (nat_le net.most_steps (leng
 ]
 
 -- a claim alarms
-pub claim_alarm : (a : Option Standing) (claim : ClaimParts) → claim_in a ≡ Some claim → a ≡ Some (rejecting claim)
+pub claim_alarm : (a : Option Standing) (claim : ClaimParts) → rejecting_claim a ≡ Some claim → a ≡ Some (rejecting claim)
 claim_alarm None claim e = absurd (none-some claim e)
 claim_alarm (Some settled) claim e = absurd (none-some claim e)
 claim_alarm (Some (clashing left right)) claim e = absurd (none-some claim e)
@@ -248,22 +248,22 @@ alarm_there header seats most_items most_steps pool steps node seat at =
 -- how a node stands, by its seat
 pub standing_there : {F : Type 0} (header : Roots) (seats : List (Seat F)) (most_items most_steps : ℕ) (pool : List Entry) (steps : List Kept) (node : ℕ) (seat : Seat F)
     (one : NodeState) → slice_get seats node ≡ Some seat
-    → (standing : Standing) × SeatStands header (handed (items_in pool) steps node) seat standing × (one ≡ state_of standing)
+    → (standing : Standing) × SeatStands header (handed (pool_items pool) steps node) seat standing × (one ≡ standing_state standing)
     → HasState (seen header seats most_items most_steps pool steps) node one
 standing_there header seats most_items most_steps pool steps node seat one at (standing, is, e) = (
   standing,
   record {
-    kind = kind_of seat.node;
-    is_node = slice_get-map (λ (s : Seat _). kind_of s.node) seats node ∙ ap (option_map (λ (s : Seat _). kind_of s.node)) at;
+    kind = node_kind seat.node;
+    is_node = slice_get-map (λ (s : Seat _). node_kind s.node) seats node ∙ ap (option_map (λ (s : Seat _). node_kind s.node)) at;
     stands = is.stands;
-    fits = subst (λ (a : Option Standing). Fits a standing) (sym (alarm_there header seats most_items most_steps pool steps node seat at)) is.fits;
+    fits = subst (λ (a : Option Standing). FitsAlarm a standing) (sym (alarm_there header seats most_items most_steps pool steps node seat at)) is.fits;
   },
   e,
 )
 
 module _ {F : Type 0} (picks : F → ℕ → Cell → Type 0) (header : Roots) (seats : List (Seat F)) (most_items most_steps : ℕ) (pool : List Entry) (steps : List Kept)
     (is : IsNet picks header seats pool steps) (to : ℕ) (old new : Seat F) (at : slice_get seats to ≡ Some old) (place : ℕ) (entry : Entry)
-    (there : slice_get pool place ≡ Some entry) (step : IsSeatStep picks header (handed (items_in pool) steps to ++ entry.item ∷ []) old new)
+    (there : slice_get pool place ≡ Some entry) (step : IsSeatStep picks header (handed (pool_items pool) steps to ++ entry.item ∷ []) old new)
     (after : (left right : List ℕ) → alarm_of old.node ≡ Some (clashing left right) → AfterClash header left right entry.item (alarm_of new.node)) where
   -- the new seat stands at its place
   new_there : slice_get (set seats to new) to ≡ Some new
@@ -271,19 +271,19 @@ module _ {F : Type 0} (picks : F → ℕ → Cell → Type 0) (header : Roots) (
 
   -- what a handing did
   pub is_handed : (one : NodeState)
-      → ((h : Roots) (items : List Item) → IsSeat picks h items new → (standing : Standing) × SeatStands h items new standing × (one ≡ state_of standing))
+      → ((h : Roots) (items : List Item) → IsSeat picks h items new → (standing : Standing) × SeatStands h items new standing × (one ≡ standing_state standing))
       → IsHanded (seen header seats most_items most_steps pool steps) (seen header (set seats to new) most_items most_steps pool (steps ++ kept.Hand place to ∷ []))
       place to one
   is_handed one state = record {
     pool = refl;
     steps = refl;
     state_is = standing_there header (set seats to new) most_items most_steps pool (steps ++ kept.Hand place to ∷ []) to new one new_there
-        (state header (handed (items_in pool) (steps ++ kept.Hand place to ∷ []) to)
+        (state header (handed (pool_items pool) (steps ++ kept.Hand place to ∷ []) to)
         (subst (λ (l : List Item). IsSeat picks header l new) (sym (handed_it picks header seats pool steps is to old new at place entry there step)) step.seat));
     keeps = λ claim e.
         let before : alarm_of old.node ≡ Some (rejecting claim) = sym (alarm_there header seats most_items most_steps pool steps to old at) ∙ e in
         alarm_there header (set seats to new) most_items most_steps pool (steps ++ kept.Hand place to ∷ []) to new new_there
-        ∙ claim_alarm (alarm_of new.node) claim (step.keeps claim (ap claim_in before));
+        ∙ claim_alarm (alarm_of new.node) claim (step.keeps claim (ap rejecting_claim before));
     clashes = λ left right given e placed.
         let before : alarm_of old.node ≡ Some (clashing left right) = sym (alarm_there header seats most_items most_steps pool steps to old at) ∙ e in
         let same : entry.item ≡ given =
@@ -300,25 +300,25 @@ module _ {F : Type 0} (picks : F → ℕ → Cell → Type 0) (header : Roots) (
 -- ---- publishing
 
 -- a full node that holds a claim stands so
-full_claims : (header : Roots) (items : List Item) (o : Option End) (claim : ClaimParts) → claim_in (alarm_by o) ≡ Some claim
-    → Stands header full items (standing_by o) → Stands header full items (rejecting claim)
+full_claims : (header : Roots) (items : List Item) (o : Option End) (claim : ClaimParts) → rejecting_claim (alarm_by o) ≡ Some claim
+    → NodeMayStand header full items (standing_by o) → NodeMayStand header full items (rejecting claim)
 full_claims header items None claim e stands = absurd (none-some claim e)
 full_claims header items (Some (end.Clash pair)) claim e stands = absurd (none-some claim e)
 full_claims header items (Some (end.Rejected other)) claim e stands =
-    subst (λ (c : ClaimParts). Stands header full items (rejecting c)) (same_Some other claim e) stands
+    subst (λ (c : ClaimParts). NodeMayStand header full items (rejecting c)) (same_Some other claim e) stands
 
 -- and so does a light node
-light_claims : (o : Option ClaimParts) (claim : ClaimParts) → claim_in (alarm_with o) ≡ Some claim → o ≡ Some claim
+light_claims : (o : Option ClaimParts) (claim : ClaimParts) → rejecting_claim (alarm_with o) ≡ Some claim → o ≡ Some claim
 light_claims None claim e = absurd (none-some claim e)
 light_claims (Some other) claim e = e
 
 -- a node that holds a claim stands so
 pub node_claims : {F : Type 0} (picks : F → ℕ → Cell → Type 0) (header : Roots) (items : List Item) (node : Node F) (claim : ClaimParts)
-    → claim_in (alarm_of node) ≡ Some claim → IsNodeFor picks header items node → Stands header (kind_of node) items (rejecting claim)
+    → rejecting_claim (alarm_of node) ≡ Some claim → IsNodeFor picks header items node → NodeMayStand header (node_kind node) items (rejecting claim)
 node_claims picks header items (Full node) claim e is = full_claims header items node.end claim e is.stands
 node_claims picks header items (Light node) claim e is =
-    subst (λ (h : Roots). IsFirstAccepted h (events_of items) (Some claim)) is.header_is
-    (subst (IsFirstAccepted node.header (events_of items)) (light_claims node.claim claim e) is.stands.claim)
+    subst (λ (h : Roots). IsFirstAccepted h (item_events items) (Some claim)) is.header_is
+    (subst (IsFirstAccepted node.header (item_events items)) (light_claims node.claim claim e) is.stands.claim)
 
 module _ {F : Type 0} (picks : F → ℕ → Cell → Type 0) (header : Roots) (seats : List (Seat F)) (pool : List Entry) (steps : List Kept)
     (is : IsNet picks header seats pool steps) (by : ℕ) (old new : Seat F) (at : slice_get seats by ≡ Some old) (claim : ClaimParts) (copied : IsCopied old new claim) where
@@ -327,15 +327,15 @@ module _ {F : Type 0} (picks : F → ℕ → Cell → Type 0) (header : Roots) (
   claimed = record { item = item.Claim claim; accepted = true }
 
   -- the node stands so
-  by_stands : Stands header (kind_of old.node) (handed (items_in pool) steps by) (rejecting claim)
-  by_stands = node_claims picks header (handed (items_in pool) steps by) old.node claim copied.held (is.seated by old at).is_node
+  by_stands : NodeMayStand header (node_kind old.node) (handed (pool_items pool) steps by) (rejecting claim)
+  by_stands = node_claims picks header (handed (pool_items pool) steps by) old.node claim copied.held (is.seated by old at).is_node
 
   -- a seat as before
   copied_seat : (items : List Item) → IsSeat picks header items old → IsSeat picks header items new
   copied_seat items seat = record {
     is_node = subst (IsNodeFor picks header items) (sym copied.node_is) seat.is_node;
-    spare = subst (λ (n : Node F). HasSpareFor header.k (claim_in (alarm_of n)) new.kept) (sym copied.node_is)
-        (subst (λ (o : Option ClaimRoom). HasSpareFor header.k (claim_in (alarm_of old.node)) o) (sym copied.kept_is) seat.spare);
+    spare = subst (λ (n : Node F). HasSpareFor header.k (rejecting_claim (alarm_of n)) new.kept) (sym copied.node_is)
+        (subst (λ (o : Option ClaimRoom). HasSpareFor header.k (rejecting_claim (alarm_of old.node)) o) (sym copied.kept_is) seat.spare);
   }
 
   -- the publishing counts
@@ -357,16 +357,16 @@ module _ {F : Type 0} (picks : F → ℕ → Cell → Type 0) (header : Roots) (
   -- a claim is published
   pub net_publish : IsNet picks header (set seats by new) (pool ++ claimed ∷ []) (steps ++ kept.Publish by ∷ [])
   net_publish = record {
-    run = subst (λ (n : Network). IsRun n (items_in (pool ++ claimed ∷ [])) (steps ++ kept.Publish by ∷ []))
-        (sym (same_network picks header seats pool steps is by old new at (ap kind_of copied.node_is)))
+    run = subst (λ (n : Network). IsRun n (pool_items (pool ++ claimed ∷ [])) (steps ++ kept.Publish by ∷ []))
+        (sym (same_network picks header seats pool steps is by old new at (ap node_kind copied.node_is)))
         (subst (λ (l : List Item). IsRun (network_with header seats) l (steps ++ kept.Publish by ∷ [])) (sym (items-push picks header seats pool steps is claimed))
-        (publish (items_in pool) steps by (kind_of old.node) claim is.run
-        (slice_get-map (λ (seat : Seat F). kind_of seat.node) seats by ∙ ap (option_map (λ (seat : Seat F). kind_of seat.node)) at) by_stands));
+        (publish (pool_items pool) steps by (node_kind old.node) claim is.run
+        (slice_get-map (λ (seat : Seat F). node_kind seat.node) seats by ∙ ap (option_map (λ (seat : Seat F). node_kind seat.node)) at) by_stands));
     seated = λ node seat e. subst (λ (l : List Item). IsSeat picks header (handed l (steps ++ kept.Publish by ∷ []) node) seat) (sym (items-push picks header seats pool steps is claimed))
         (elim (seat_cases picks header seats pool steps is by old new at node seat e) [
           | inl same ↦
-              subst (λ (s : Seat F). IsSeat picks header (handed (items_in pool ++ item.Claim claim ∷ []) (steps ++ kept.Publish by ∷ []) node) s) same.1
-              (copied_seat (handed (items_in pool ++ item.Claim claim ∷ []) (steps ++ kept.Publish by ∷ []) node)
+              subst (λ (s : Seat F). IsSeat picks header (handed (pool_items pool ++ item.Claim claim ∷ []) (steps ++ kept.Publish by ∷ []) node) s) same.1
+              (copied_seat (handed (pool_items pool ++ item.Claim claim ∷ []) (steps ++ kept.Publish by ∷ []) node)
               (seat_there picks header seats pool steps is (item.Claim claim ∷ []) (kept.Publish by) node old (ap (slice_get seats) same.0 ∙ at) refl))
           | inr other ↦ seat_there picks header seats pool steps is (item.Claim claim ∷ []) (kept.Publish by) node seat other.1 refl
         ]);
@@ -379,12 +379,12 @@ module _ {F : Type 0} (picks : F → ℕ → Cell → Type 0) (header : Roots) (
           subst (λ (b : Bool). HasUnpublished header.k b seat.published)
           (sym (same_published picks header seats pool steps is (kept.Publish by) node (published_not node other.0))) (is.unpublished node seat other.1)
     ];
-    judged = judged_more picks header seats pool steps is claimed (λ e. holds_accepted header (kind_of old.node) (handed (items_in pool) steps by) claim by_stands, λ accepts. refl);
+    judged = judged_more picks header seats pool steps is claimed (λ e. holds_accepted header (node_kind old.node) (handed (pool_items pool) steps by) claim by_stands, λ accepts. refl);
   }
 
   -- what it did
   pub is_published : (most_items most_steps : ℕ) → IsPooled (seen header seats most_items most_steps pool steps)
-      (seen header (set seats by new) most_items most_steps (pool ++ claimed ∷ []) (steps ++ kept.Publish by ∷ [])) (item.Claim claim) (kept.Publish by) (length (items_in pool))
+      (seen header (set seats by new) most_items most_steps (pool ++ claimed ∷ []) (steps ++ kept.Publish by ∷ [])) (item.Claim claim) (kept.Publish by) (length (pool_items pool))
   is_published most_items most_steps = record {
     place_is = refl;
     pool = items-push picks header seats pool steps is claimed;
@@ -402,7 +402,7 @@ claim_there (Some r) = refl
 
 -- a claim that a node holds is accepted
 pub claim_accepts : {F : Type 0} (picks : F → ℕ → Cell → Type 0) (header : Roots) (items : List Item) (node : Node F) (found : Option ClaimParts)
-    → found ≡ claim_in (alarm_of node) → IsNodeFor picks header items node → IfSome found (Accepts header)
+    → found ≡ rejecting_claim (alarm_of node) → IsNodeFor picks header items node → IfSome found (Accepts header)
 claim_accepts picks header items node None e is = tt
 claim_accepts picks header items node (Some claim) e is =
-    holds_accepted header (kind_of node) items claim (node_claims picks header items node claim (sym e) is)
+    holds_accepted header (node_kind node) items claim (node_claims picks header items node claim (sym e) is)

@@ -26,26 +26,26 @@ use Rattle.light_node.specs.Events.{IsFirstAccepted}
 use Rattle.da_net.specs.declared.items.Item.{Item}
 use Rattle.da_net.specs.declared.items.Item.TheVariants as item
 use Rattle.da_net.specs.declared.items.Kept.{Kept}
-use Rattle.da_net.specs.Networks.{messages_of, events_of, Kind, full, light, Network, Standing, settled, clashing, waiting, available, rejecting, Stands, IsRejecting, IsClashing, handed, IsRun}
+use Rattle.da_net.specs.Networks.{messages_of, item_events, NodeKind, full, light, Network, Standing, settled, clashing, waiting, available, rejecting, NodeMayStand, IsRejecting, IsClashing, handed, IsRun}
 use Rattle.da_net.specs.Promises.{IsAlarmed, PoolNames, Reached, given, reached, AreAvailable, IsPlanned, WereHandedTo}
 use Rattle.da_net.proofs.HandedLemmas.{event_there, claim_back, sample_back, message_there, message_back, stays_handed, handed_pooled, pool_messages}
 
 -- ---- nodes that reject
 
 -- who rejects holds an accepted claim
-pub holds_accepted : (header : Roots) (kind : Kind) (items : List Item) (claim : ClaimParts) → Stands header kind items (rejecting claim) → Accepts header claim
+pub holds_accepted : (header : Roots) (kind : NodeKind) (items : List Item) (claim : ClaimParts) → NodeMayStand header kind items (rejecting claim) → Accepts header claim
 holds_accepted header full items claim stands = stands.0
 holds_accepted header (light plan) items claim stands = stands.0
 
 -- the first accepted claim is among the items
-first_there : (header : Roots) (items : List Item) (claim : ClaimParts) → IsFirstAccepted header (events_of items) (Some claim) → Contains items (item.Claim claim)
+first_there : (header : Roots) (items : List Item) (claim : ClaimParts) → IsFirstAccepted header (item_events items) (Some claim) → Contains items (item.Claim claim)
 first_there header items claim (accepts, before, after, is, none) =
     claim_back items claim (subst (λ (l : List Event). Contains l (event.Claim claim)) (sym is)
     (Contains-append_right before (event.Claim claim ∷ after) (event.Claim claim) (contains_head (event.Claim claim) after)))
 
 -- who was handed an accepted claim rejects
-pub rejects_by : (header : Roots) (kind : Kind) (items : List Item) (claim : ClaimParts) (standing : Standing)
-    → Contains items (item.Claim claim) → Accepts header claim → Stands header kind items standing → IsRejecting standing
+pub rejects_by : (header : Roots) (kind : NodeKind) (items : List Item) (claim : ClaimParts) (standing : Standing)
+    → Contains items (item.Claim claim) → Accepts header claim → NodeMayStand header kind items standing → IsRejecting standing
 rejects_by header full items claim settled at accepts stands = stands.0 claim (event_there items (item.Claim claim) at) accepts
 rejects_by header full items claim (clashing left right) at accepts stands = stands.0 claim (event_there items (item.Claim claim) at) accepts
 rejects_by header full items claim waiting at accepts stands = stands
@@ -58,15 +58,15 @@ rejects_by header (light plan) items claim available at accepts stands = stands.
 rejects_by header (light plan) items claim (rejecting other) at accepts stands = tt
 
 -- and does so whatever comes later
-pub rejects_on : (net : Network) (pool later : List Item) (steps more : List Kept) (node : ℕ) (kind : Kind) (claim : ClaimParts) (standing : Standing)
+pub rejects_on : (net : Network) (pool later : List Item) (steps more : List Kept) (node : ℕ) (kind : NodeKind) (claim : ClaimParts) (standing : Standing)
     → Contains (handed pool steps node) (item.Claim claim) → Accepts net.header claim
-    → Stands net.header kind (handed (pool ++ later) (steps ++ more) node) standing → IsRejecting standing
+    → NodeMayStand net.header kind (handed (pool ++ later) (steps ++ more) node) standing → IsRejecting standing
 rejects_on net pool later steps more node kind claim standing at accepts stands =
     rejects_by net.header kind (handed (pool ++ later) (steps ++ more) node) claim standing
     (stays_handed pool later steps more node (item.Claim claim) at) accepts stands
 
 -- a full node rejects, has a collision or is settled
-pub full_cases : (header : Roots) (items : List Item) (standing : Standing) → Stands header full items standing
+pub full_cases : (header : Roots) (items : List Item) (standing : Standing) → NodeMayStand header full items standing
     → IsRejecting standing ⊎ (IsClashing standing ⊎ ((standing ≡ settled) × IsSettled header (messages_of items)))
 full_cases header items settled stands = inr (inr (refl, stands.1))
 full_cases header items (clashing left right) stands = inr (inl tt)
@@ -102,7 +102,7 @@ module _ (net : Network) (pool : List Item) (steps : List Kept) (node : ℕ) (sq
       ]
 
   -- who rejects or has a collision names one
-  pub alarmed_names : (kind : Kind) (standing : Standing) → Stands net.header kind (handed pool steps node) standing → IsAlarmed standing → PoolNames pool square
+  pub alarmed_names : (kind : NodeKind) (standing : Standing) → NodeMayStand net.header kind (handed pool steps node) standing → IsAlarmed standing → PoolNames pool square
   alarmed_names full settled stands (inl never) = absurd never
   alarmed_names full settled stands (inr never) = absurd never
   alarmed_names full (clashing left right) stands alarmed = elim (own_or_names (clash left right) stands.1) [
@@ -157,7 +157,7 @@ module _ (net : Network) (pool : List Item) (steps : List Kept) (nodes : List �
 
 -- a full node rejects, or has a collision, or these cells are recoverable to it
 pub planned_cases : (net : Network) (pool : List Item) (steps : List Kept) (nodes : List ℕ) (to : ℕ) (standing : Standing)
-    → AreAvailable net pool steps nodes → WereHandedTo pool steps nodes to → Stands net.header full (handed pool steps to) standing
+    → AreAvailable net pool steps nodes → WereHandedTo pool steps nodes to → NodeMayStand net.header full (handed pool steps to) standing
     → IsRejecting standing ⊎ (IsClashing standing ⊎ ((standing ≡ settled) × ((cell : Cell) → IsPlanned net nodes cell
     → Half net.header (messages_of (handed pool steps to)) cell)))
 planned_cases net pool steps nodes to standing are too stands = elim (full_cases net.header (handed pool steps to) standing stands) [

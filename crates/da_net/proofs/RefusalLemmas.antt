@@ -4,7 +4,7 @@ use Rattle.std.proofs.lemmas.Bool.Decides.{nat_tests}
 use Rattle.std.specs.List.{list_any}
 use Rattle.da_net.specs.declared.items.StepRefusal.{StepRefusal}
 use Rattle.da_net.specs.declared.items.StepRefusal.TheVariants as refusal
-use Rattle.da_net.specs.Nets.{NetParts, alarm_at, claim_in, has_claim, is_publishing, why_not_hand, why_not_publish}
+use Rattle.da_net.specs.Nets.{NetParts, alarm_at, rejecting_claim, has_claim, is_publishing, why_not_hand, why_not_publish}
 
 module _ (net : NetParts) (place to : ℕ) where
   -- an item that isn't there is not handed
@@ -37,24 +37,24 @@ module _ (net : NetParts) (by : ℕ) where
   pub no_publisher : length net.nodes ≤ by → Some refusal.NoNode ≡ why_not_publish net by
   no_publisher past =
       let test : nat_le (length net.nodes) by ≡ true = grind (arith, nat_tests) in
-      sym (ap (λ (a : Bool). tested a (has_claim (claim_in (alarm_at net by))) (list_any (is_publishing by) net.steps)) test)
+      sym (ap (λ (a : Bool). tested a (has_claim (rejecting_claim (alarm_at net by))) (list_any (is_publishing by) net.steps)) test)
 
   -- nor does one that doesn't reject
-  pub not_rejecting : by < length net.nodes → has_claim (claim_in (alarm_at net by)) ≡ false
+  pub not_rejecting : by < length net.nodes → has_claim (rejecting_claim (alarm_at net by)) ≡ false
       → Some refusal.NotRejecting ≡ why_not_publish net by
   not_rejecting there calm =
       let test : nat_le (length net.nodes) by ≡ false = grind (arith, nat_tests) in
       sym (ap₂ (λ (a b : Bool). tested a b (list_any (is_publishing by) net.steps)) test calm)
 
   -- nor one that has done so
-  pub has_done : by < length net.nodes → has_claim (claim_in (alarm_at net by)) ≡ true
+  pub has_done : by < length net.nodes → has_claim (rejecting_claim (alarm_at net by)) ≡ true
       → list_any (is_publishing by) net.steps ≡ true → Some refusal.Published ≡ why_not_publish net by
   has_done there rejects done =
       let test : nat_le (length net.nodes) by ≡ false = grind (arith, nat_tests) in
       sym (ap₂ (λ (a b : Bool). tested a b (list_any (is_publishing by) net.steps)) test rejects ∙ ap (tested false true) done)
 
   -- any other does
-  pub may_publish : by < length net.nodes → has_claim (claim_in (alarm_at net by)) ≡ true
+  pub may_publish : by < length net.nodes → has_claim (rejecting_claim (alarm_at net by)) ≡ true
       → list_any (is_publishing by) net.steps ≡ false → None ≡ why_not_publish net by
   may_publish there rejects first =
       let test : nat_le (length net.nodes) by ≡ false = grind (arith, nat_tests) in

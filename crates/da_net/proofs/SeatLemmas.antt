@@ -10,16 +10,16 @@ use Rattle.light_node.specs.declared.events.LightState.TheVariants as seen
 use Rattle.light_node.specs.declared.events.Light.{Light as LightVerdict}
 use Rattle.light_node.specs.declared.events.Light.TheVariants as verdict
 use Rattle.light_node.specs.Events.{IsState, IsFirstAccepted, IsLight}
-use Rattle.light_node.specs.Nodes.{NodeParts, StandsFor}
+use Rattle.light_node.specs.Nodes.{NodeParts, NodeStands}
 use Rattle.da_net.specs.declared.items.Item.{Item}
 use Rattle.da_net.specs.declared.items.Item.TheVariants as item
 use Rattle.da_net.specs.declared.seats.Node.{Node}
 use Rattle.da_net.specs.declared.seats.Node.TheVariants.{Full, Light}
 use Rattle.da_net.specs.declared.seats.Seat.{Seat}
 use Rattle.da_net.specs.declared.copies.ClaimRoom.{ClaimRoom}
-use Rattle.da_net.specs.Networks.{events_of, Standing, waiting, available, rejecting}
+use Rattle.da_net.specs.Networks.{item_events, Standing, waiting, available, rejecting}
 use Rattle.da_net.specs.Nodes.{IsLightNode}
-use Rattle.da_net.specs.Nets.{Fits, state_of, light_state, claim_in}
+use Rattle.da_net.specs.Nets.{FitsAlarm, standing_state, light_state, rejecting_claim}
 use Rattle.da_net.specs.Seats.{alarm_with, IsNodeFor, IsSeat, IsSeatStep, SeatStands}
 use Rattle.da_net.proofs.FullLemmas.{full_unaccepted}
 use Rattle.da_net.proofs.LightLemmas.{light_unaccepted, among}
@@ -28,7 +28,7 @@ use Rattle.light_node.proofs.StandingLemmas.{state_distinct}
 -- ---- light nodes
 
 -- the claim that a light node holds
-pub claim_with : (o : Option ClaimParts) → claim_in (alarm_with o) ≡ o
+pub claim_with : (o : Option ClaimParts) → rejecting_claim (alarm_with o) ≡ o
 claim_with None = refl
 claim_with (Some claim) = refl
 
@@ -53,14 +53,14 @@ unaccepted_step picks header items seat claim not is = record {
 
 -- a light node's standing, with the claim that it holds
 light_by : {F : Type 0} (header : Roots) (items : List Item) (node : NodeParts F) (kept published : Option ClaimRoom) (o : Option ClaimParts)
-    (one : LightState) → node.claim ≡ o → IsState header node.wanted (events_of items) one → IsFirstAccepted header (events_of items) o
+    (one : LightState) → node.claim ≡ o → IsState header node.wanted (item_events items) one → IsFirstAccepted header (item_events items) o
     → (standing : Standing) × SeatStands header items (record { node = Light node; kept = kept; published = published }) standing
-    × (light_state one ≡ state_of standing)
+    × (light_state one ≡ standing_state standing)
 light_by header items node kept published None seen.Waiting e is first = (
   waiting,
   record {
     stands = is;
-    fits = subst (λ (o : Option ClaimParts). Fits (alarm_with o) waiting) (sym e) (λ alarmed. elim alarmed [
+    fits = subst (λ (o : Option ClaimParts). FitsAlarm (alarm_with o) waiting) (sym e) (λ alarmed. elim alarmed [
       | inl never ↦ never
       | inr never ↦ never
     ]);
@@ -71,7 +71,7 @@ light_by header items node kept published None seen.Available e is first = (
   available,
   record {
     stands = is;
-    fits = subst (λ (o : Option ClaimParts). Fits (alarm_with o) available) (sym e) (λ alarmed. elim alarmed [
+    fits = subst (λ (o : Option ClaimParts). FitsAlarm (alarm_with o) available) (sym e) (λ alarmed. elim alarmed [
       | inl never ↦ never
       | inr never ↦ never
     ]);
@@ -80,27 +80,27 @@ light_by header items node kept published None seen.Available e is first = (
 )
 light_by header items node kept published None seen.Rejected e is first = absurd (accepted_none is)
   where
-    accepted_none : IsState header node.wanted (events_of items) seen.Rejected → ⊥
-    accepted_none (claim, found) = first claim (among header (events_of items) claim found) found.0
-light_by header items node kept published (Some claim) seen.Waiting e is first = absurd (is.0 claim (among header (events_of items) claim first) first.0)
-light_by header items node kept published (Some claim) seen.Available e is first = absurd (is.0 claim (among header (events_of items) claim first) first.0)
+    accepted_none : IsState header node.wanted (item_events items) seen.Rejected → ⊥
+    accepted_none (claim, found) = first claim (among header (item_events items) claim found) found.0
+light_by header items node kept published (Some claim) seen.Waiting e is first = absurd (is.0 claim (among header (item_events items) claim first) first.0)
+light_by header items node kept published (Some claim) seen.Available e is first = absurd (is.0 claim (among header (item_events items) claim first) first.0)
 light_by header items node kept published (Some claim) seen.Rejected e is first = (
   rejecting claim,
-  record { stands = first; fits = subst (λ (o : Option ClaimParts). Fits (alarm_with o) (rejecting claim)) (sym e) refl },
+  record { stands = first; fits = subst (λ (o : Option ClaimParts). FitsAlarm (alarm_with o) (rejecting claim)) (sym e) refl },
   refl,
 )
 
 -- a light node stands as its state says
 pub light_standing : {F : Type 0} (picks : F → ℕ → Cell → Type 0) (header : Roots) (items : List Item) (node : NodeParts F)
     (kept published : Option ClaimRoom) (one : LightState) → IsLightNode picks header items node
-    → ((plan : List Cell) (events : List Event) → StandsFor picks node plan events → IsState node.header plan events one)
+    → ((plan : List Cell) (events : List Event) → NodeStands picks node plan events → IsState node.header plan events one)
     → (standing : Standing) × SeatStands header items (record { node = Light node; kept = kept; published = published }) standing
-    × (light_state one ≡ state_of standing)
+    × (light_state one ≡ standing_state standing)
 light_standing picks header items node kept published one is state =
-    let by_plan = subst (λ (h : Roots). IsState h is.plan (events_of items) one) is.header_is (state is.plan (events_of items) is.stands) in
+    let by_plan = subst (λ (h : Roots). IsState h is.plan (item_events items) one) is.header_is (state is.plan (item_events items) is.stands) in
     light_by header items node kept published node.claim one refl
-    (subst (λ (l : List Cell). IsState header l (events_of items) one) (sym is.stands.wanted) (state_distinct header is.plan (events_of items) one by_plan))
-    (subst (λ (h : Roots). IsFirstAccepted h (events_of items) node.claim) is.header_is is.stands.claim)
+    (subst (λ (l : List Cell). IsState header l (item_events items) one) (sym is.stands.wanted) (state_distinct header is.plan (item_events items) one by_plan))
+    (subst (λ (h : Roots). IsFirstAccepted h (item_events items) node.claim) is.header_is is.stands.claim)
 
 module _ {F : Type 0} (picks : F → ℕ → Cell → Type 0) (header : Roots) (items : List Item) (seat : Seat F) (node : NodeParts F) (e : seat.node ≡ Light node)
     (is : IsSeat picks header items seat) where
@@ -109,11 +109,11 @@ module _ {F : Type 0} (picks : F → ℕ → Cell → Type 0) (header : Roots) (
   light_in = subst (λ (n : Node F). IsNodeFor picks header items n) e is.is_node
 
   -- stands as its state says
-  pub light_stands : (one : LightState) → ((plan : List Cell) (events : List Event) → StandsFor picks node plan events → IsState node.header plan events one)
-      → (standing : Standing) × SeatStands header items seat standing × (light_state one ≡ state_of standing)
+  pub light_stands : (one : LightState) → ((plan : List Cell) (events : List Event) → NodeStands picks node plan events → IsState node.header plan events one)
+      → (standing : Standing) × SeatStands header items seat standing × (light_state one ≡ standing_state standing)
   light_stands one state =
       subst (λ (n : Node F). (standing : Standing) × SeatStands {F = F} header items (record { node = n; kept = seat.kept; published = seat.published }) standing
-      × (light_state one ≡ state_of standing)) (sym e) (light_standing picks header items node seat.kept seat.published one light_in state)
+      × (light_state one ≡ standing_state standing)) (sym e) (light_standing picks header items node seat.kept seat.published one light_in state)
 
 -- ---- claims that light nodes answer
 

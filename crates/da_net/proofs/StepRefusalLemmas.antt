@@ -13,7 +13,7 @@ use Rattle.da_net.specs.declared.items.Kept.{Kept}
 use Rattle.da_net.specs.declared.items.Kept.TheVariants as kept
 use Rattle.da_net.specs.declared.items.StepRefusal.{StepRefusal}
 use Rattle.da_net.specs.declared.items.StepRefusal.TheVariants as refusal
-use Rattle.da_net.specs.Nets.{NetParts, alarm_at, claim_in, has_claim, is_publishing, is_full, why_not_hand, why_not_publish, why_not_there, why_not}
+use Rattle.da_net.specs.Nets.{NetParts, alarm_at, rejecting_claim, has_claim, is_publishing, is_full, why_not_hand, why_not_publish, why_not_there, why_not}
 use Rattle.da_net.specs.StepRefusals.{IsFull, HasStep, HasBoth, LacksItem, LacksNode, LacksClaim, PublishesAgain}
 use Rattle.da_net.proofs.RefusalLemmas.{no_item, no_node, no_publisher, not_rejecting, has_done}
 
@@ -183,22 +183,22 @@ module _ (net : NetParts) where
 
   -- a publishing that is refused by a node that is there
   claim_says : (by : ℕ) (x : StepRefusal) → HasBoth net → by < length net.nodes
-      → cond (not (has_claim (claim_in (alarm_at net by)))) (Some refusal.NotRejecting)
+      → cond (not (has_claim (rejecting_claim (alarm_at net by)))) (Some refusal.NotRejecting)
       (cond (list_any (is_publishing by) net.steps) (Some refusal.Published) None) ≡ Some x
       → Says (event.Publish by) x
-  claim_says by x room there e = elim (two_tests (not (has_claim (claim_in (alarm_at net by)))) (list_any (is_publishing by) net.steps) refusal.NotRejecting refusal.Published x e) [
+  claim_says by x room there e = elim (two_tests (not (has_claim (rejecting_claim (alarm_at net by)))) (list_any (is_publishing by) net.steps) refusal.NotRejecting refusal.Published x e) [
     | inl (t, is) ↦
         subst (Says (event.Publish by)) is
-        (room, there, claim_none (claim_in (alarm_at net by)) (not_true (has_claim (claim_in (alarm_at net by))) t))
+        (room, there, claim_none (rejecting_claim (alarm_at net by)) (not_true (has_claim (rejecting_claim (alarm_at net by))) t))
     | inr (f, t, is) ↦
         subst (Says (event.Publish by)) is
-        (room, there, claim_some (claim_in (alarm_at net by)) (not_false (has_claim (claim_in (alarm_at net by))) f), published_there by net.steps t)
+        (room, there, claim_some (rejecting_claim (alarm_at net by)) (not_false (has_claim (rejecting_claim (alarm_at net by))) f), published_there by net.steps t)
   ]
 
   -- a publishing that is refused
   publish_says : (by : ℕ) (x : StepRefusal) → HasBoth net → why_not_publish net by ≡ Some x → Says (event.Publish by) x
   publish_says by x room e =
-      let rest : Option StepRefusal = cond (not (has_claim (claim_in (alarm_at net by)))) (Some refusal.NotRejecting)
+      let rest : Option StepRefusal = cond (not (has_claim (rejecting_claim (alarm_at net by)))) (Some refusal.NotRejecting)
       (cond (list_any (is_publishing by) net.steps) (Some refusal.Published) None) in
       elim (one_test (nat_le (length net.nodes) by) refusal.NoNode x rest e) [
         | inl (t, is) ↦ subst (Says (event.Publish by)) is (room, leb-true (length net.nodes) by t)
@@ -246,7 +246,7 @@ module _ (net : NetParts) where
   says_why (event.Hand place to) refusal.Published h = absurd h
   says_why (event.Publish by) refusal.Published h =
       passes (event.Publish by) (room_both h.0)
-      ∙ sym (has_done net by h.1 (some_claim (claim_in (alarm_at net by)) h.2) (there_published by net.steps h.3))
+      ∙ sym (has_done net by h.1 (some_claim (rejecting_claim (alarm_at net by)) h.2) (there_published by net.steps h.3))
 
 -- an answer refuses for what is in it
 refused_by : {A E : Type 0} (r : Result A E) (x : E) → IsErrOf r x ↔ (refusal_in r ≡ Some x)

@@ -20,14 +20,14 @@ use Rattle.da_net.specs.declared.items.Stepped.{Stepped}
 use Rattle.da_net.specs.declared.items.Stepped.TheVariants as stepped
 use Rattle.da_net.specs.declared.items.StepRefusal.{StepRefusal}
 use Rattle.da_net.specs.declared.items.StepRefusal.TheVariants as refusal
-use Rattle.da_net.specs.Networks.{messages_of, events_of, Kind, full, light, Network, Standing, settled, clashing, waiting, available, rejecting, Stands, handed}
+use Rattle.da_net.specs.Networks.{messages_of, item_events, NodeKind, full, light, Network, Standing, settled, clashing, waiting, available, rejecting, NodeMayStand, handed}
 use Rattle.da_net.specs.Promises.{IsAlarmed}
 
 -- a network as contracts see it: its header and its nodes, what alarmed each of these, a claim or a collision, for how
 -- many items and steps it was made, its pool and its steps
 pub record NetParts : Type 0 where
   pub header : Roots
-  pub nodes : List Kind
+  pub nodes : List NodeKind
   pub alarms : List (Option Standing)
   pub most_items : ℕ
   pub most_steps : ℕ
@@ -44,7 +44,7 @@ is_too_many fulls lights items steps =
     nat_lt 8 fulls || nat_lt 64 lights || nat_lt 65536 items || nat_lt 1048576 steps
 
 -- a network in which nothing has happened: of so many full nodes, and of these light nodes
-abbrev pub fresh : Roots → ℕ → List Kind → ℕ → ℕ → NetParts
+abbrev pub fresh : Roots → ℕ → List NodeKind → ℕ → ℕ → NetParts
 fresh header fulls lights most_items most_steps = record {
   header = header;
   nodes = replicate fulls full ++ lights;
@@ -62,24 +62,24 @@ abbrev pub alarm_at : NetParts → ℕ → Option Standing
 alarm_at net node = option_and_then (λ alarm. alarm) (slice_get net.alarms node)
 
 -- a node that was alarmed stands so, and no other is alarmed
-abbrev pub Fits : Option Standing → Standing → Type 0
-Fits None standing = IsAlarmed standing → ⊥
-Fits (Some alarm) standing = standing ≡ alarm
+abbrev pub FitsAlarm : Option Standing → Standing → Type 0
+FitsAlarm None standing = IsAlarmed standing → ⊥
+FitsAlarm (Some alarm) standing = standing ≡ alarm
 
 -- how a node stands
 pub record HasStanding (net : NetParts) (node : ℕ) (standing : Standing) : Type 0 where
-  pub kind : Kind
+  pub kind : NodeKind
   pub is_node : slice_get net.nodes node ≡ Some kind
-  pub stands : Stands net.header kind (handed net.pool net.steps node) standing
-  pub fits : Fits (alarm_at net node) standing
+  pub stands : NodeMayStand net.header kind (handed net.pool net.steps node) standing
+  pub fits : FitsAlarm (alarm_at net node) standing
 
 -- the state of a node that stands so
-abbrev pub state_of : Standing → NodeState
-state_of settled = state.Open
-state_of (clashing left right) = state.Clash
-state_of waiting = state.Waiting
-state_of available = state.Available
-state_of (rejecting claim) = state.Rejected
+abbrev pub standing_state : Standing → NodeState
+standing_state settled = state.Open
+standing_state (clashing left right) = state.Clash
+standing_state waiting = state.Waiting
+standing_state available = state.Available
+standing_state (rejecting claim) = state.Rejected
 
 -- the state of a light node, among those of all nodes
 abbrev pub light_state : LightState → NodeState
@@ -89,16 +89,16 @@ light_state seen.Rejected = state.Rejected
 
 -- the state of a node
 abbrev pub HasState : NetParts → ℕ → NodeState → Type 0
-HasState net node one = (standing : Standing) × HasStanding net node standing × (one ≡ state_of standing)
+HasState net node one = (standing : Standing) × HasStanding net node standing × (one ≡ standing_state standing)
 
 -- the claim by which a node rejects
-abbrev pub claim_in : Option Standing → Option ClaimParts
-claim_in None = None
-claim_in (Some settled) = None
-claim_in (Some (clashing left right)) = None
-claim_in (Some waiting) = None
-claim_in (Some available) = None
-claim_in (Some (rejecting claim)) = Some claim
+abbrev pub rejecting_claim : Option Standing → Option ClaimParts
+rejecting_claim None = None
+rejecting_claim (Some settled) = None
+rejecting_claim (Some (clashing left right)) = None
+rejecting_claim (Some waiting) = None
+rejecting_claim (Some available) = None
+rejecting_claim (Some (rejecting claim)) = Some claim
 
 -- the collision that a node has
 abbrev pub clash_in : Option Standing → Option (List ℕ × List ℕ)
@@ -111,9 +111,9 @@ clash_in (Some (rejecting claim)) = None
 
 -- the cells that a node misses: a full node those that aren't recoverable from what it was handed, a light node those
 -- that it planned and no sample showed
-abbrev pub AreMissed : Roots → Kind → List Item → CellList → Type 0
+abbrev pub AreMissed : Roots → NodeKind → List Item → CellList → Type 0
 AreMissed header full items cells = AreLeft header (messages_of items) cells
-AreMissed header (light plan) items cells = AreWaitedFor header plan (events_of items) cells
+AreMissed header (light plan) items cells = AreWaitedFor header plan (item_events items) cells
 
 -- ---- steps
 
@@ -149,7 +149,7 @@ why_not_hand net place to =
 abbrev pub why_not_publish : NetParts → ℕ → Option StepRefusal
 why_not_publish net by =
     if nat_le (length net.nodes) by then Some refusal.NoNode
-    else if not (has_claim (claim_in (alarm_at net by))) then Some refusal.NotRejecting
+    else if not (has_claim (rejecting_claim (alarm_at net by))) then Some refusal.NotRejecting
     else if list_any (is_publishing by) net.steps then Some refusal.Published else None
 
 -- why an event is refused for which there is capacity
@@ -163,7 +163,7 @@ abbrev pub why_not : NetParts → NetEvent → Option StepRefusal
 why_not net one = if is_full net one then Some (refusal.Full one) else why_not_there net one
 
 -- the header, the nodes and the numbers for which a network was made are as they were
-pub record IsSame (old new : NetParts) : Type 0 where
+pub record IsSameNet (old new : NetParts) : Type 0 where
   pub header : new.header ≡ old.header
   pub nodes : new.nodes ≡ old.nodes
   pub most_items : new.most_items ≡ old.most_items

@@ -26,31 +26,31 @@ messages_of (item.Message m ∷ items) = m ∷ messages_of items
 messages_of (item.Claim claim ∷ items) = messages_of items
 
 -- an item as an event of a light node: a sample or a claim
-abbrev pub event_of : Item → Event
-event_of (item.Message m) = event.Sample m
-event_of (item.Claim claim) = event.Claim claim
+abbrev pub item_event : Item → Event
+item_event (item.Message m) = event.Sample m
+item_event (item.Claim claim) = event.Claim claim
 
 -- items as events of a light node
-abbrev pub events_of : List Item → List Event
-events_of [] = []
-events_of (one ∷ items) = event_of one ∷ events_of items
+abbrev pub item_events : List Item → List Event
+item_events [] = []
+item_events (one ∷ items) = item_event one ∷ item_events items
 
 -- a sample of an item has its numbers, share and digests
-abbrev pub IsItem : Item → Type 0
-IsItem (item.Message m) = IsMessage m
-IsItem (item.Claim claim) = Unit {0}
+abbrev pub IsNetItem : Item → Type 0
+IsNetItem (item.Message m) = IsMessage m
+IsNetItem (item.Claim claim) = Unit {0}
 
 -- ---- nodes
 
 -- a full node, or a light node with the cells that it planned
-pub data Kind : Type 0 where
-  full : Kind
-  light : (plan : List Cell) → Kind
+pub data NodeKind : Type 0 where
+  full : NodeKind
+  light : (plan : List Cell) → NodeKind
 
 -- a network: the header, and its nodes, numbered from 0 on
 pub record Network : Type 0 where
   pub header : Roots
-  pub nodes : List Kind
+  pub nodes : List NodeKind
 
 -- how a node stands: a full node is settled, or has a collision; a light node waits, or the data is available to it; and
 -- either may reject the header by a claim
@@ -62,19 +62,19 @@ pub data Standing : Type 0 where
   rejecting : (claim : ClaimParts) → Standing
 
 -- how a node that was handed these items may stand
-abbrev pub Stands : Roots → Kind → List Item → Standing → Type 0
-Stands header full items settled = NoneAccepted header (events_of items) × IsSettled header (messages_of items)
-Stands header full items (clashing left right) =
-    NoneAccepted header (events_of items) × IsFoundClash header (messages_of items) left right
-Stands header full items waiting = ⊥
-Stands header full items available = ⊥
-Stands header full items (rejecting claim) =
+abbrev pub NodeMayStand : Roots → NodeKind → List Item → Standing → Type 0
+NodeMayStand header full items settled = NoneAccepted header (item_events items) × IsSettled header (messages_of items)
+NodeMayStand header full items (clashing left right) =
+    NoneAccepted header (item_events items) × IsFoundClash header (messages_of items) left right
+NodeMayStand header full items waiting = ⊥
+NodeMayStand header full items available = ⊥
+NodeMayStand header full items (rejecting claim) =
     Accepts header claim × (Contains items (item.Claim claim) ⊎ IsFraud header (messages_of items) claim)
-Stands header (light plan) items settled = ⊥
-Stands header (light plan) items (clashing left right) = ⊥
-Stands header (light plan) items waiting = IsState header plan (events_of items) state.Waiting
-Stands header (light plan) items available = IsState header plan (events_of items) state.Available
-Stands header (light plan) items (rejecting claim) = IsFirstAccepted header (events_of items) (Some claim)
+NodeMayStand header (light plan) items settled = ⊥
+NodeMayStand header (light plan) items (clashing left right) = ⊥
+NodeMayStand header (light plan) items waiting = IsState header plan (item_events items) state.Waiting
+NodeMayStand header (light plan) items available = IsState header plan (item_events items) state.Available
+NodeMayStand header (light plan) items (rejecting claim) = IsFirstAccepted header (item_events items) (Some claim)
 
 -- a node rejects
 abbrev pub IsRejecting : Standing → Type 0
@@ -109,10 +109,10 @@ handed pool (step ∷ steps) node = handed_by pool step node ++ handed pool step
 -- stays there, is handed to a node; a node that rejects puts its claim into the pool
 pub data IsRun (net : Network) : List Item → List Kept → Type 0 where
   start : IsRun net [] []
-  put : (pool : List Item) (steps : List Kept) (one : Item) → IsRun net pool steps → IsItem one
+  put : (pool : List Item) (steps : List Kept) (one : Item) → IsRun net pool steps → IsNetItem one
       → IsRun net (pool ++ one ∷ []) (steps ++ kept.Put ∷ [])
   hand : (pool : List Item) (steps : List Kept) (place node : ℕ) → IsRun net pool steps → place < length pool
       → node < length net.nodes → IsRun net pool (steps ++ kept.Hand place node ∷ [])
-  publish : (pool : List Item) (steps : List Kept) (node : ℕ) (kind : Kind) (claim : ClaimParts) → IsRun net pool steps
-      → slice_get net.nodes node ≡ Some kind → Stands net.header kind (handed pool steps node) (rejecting claim)
+  publish : (pool : List Item) (steps : List Kept) (node : ℕ) (kind : NodeKind) (claim : ClaimParts) → IsRun net pool steps
+      → slice_get net.nodes node ≡ Some kind → NodeMayStand net.header kind (handed pool steps node) (rejecting claim)
       → IsRun net (pool ++ item.Claim claim ∷ []) (steps ++ kept.Publish node ∷ [])

@@ -15,7 +15,7 @@ use Rattle.da_net.specs.declared.items.Item.{Item}
 use Rattle.da_net.specs.declared.items.Item.TheVariants as item
 use Rattle.da_net.specs.declared.items.Kept.{Kept}
 use Rattle.da_net.specs.declared.items.Kept.TheVariants as kept
-use Rattle.da_net.specs.Networks.{messages_of, full, light, Network, Standing, settled, available, Stands, IsRejecting, IsClashing, handed}
+use Rattle.da_net.specs.Networks.{messages_of, full, light, Network, Standing, settled, available, NodeMayStand, IsRejecting, IsClashing, handed}
 
 -- a step handed this item of the pool to a node
 abbrev pub WasHanded : List Item → List Kept → ℕ → Item → Type 0
@@ -37,8 +37,8 @@ abbrev pub AllRecoverable : Roots → List Message → Type 0
 AllRecoverable header ms = (cell : Cell) → is_in_square header.k cell ≡ true → Half header ms cell
 
 -- a full node that was handed these items is settled, and all cells are recoverable
-pub record IsComplete (header : Roots) (items : List Item) : Type 0 where
-  pub stands : Stands header full items settled
+pub record HasAllCells (header : Roots) (items : List Item) : Type 0 where
+  pub stands : NodeMayStand header full items settled
   pub all : AllRecoverable header (messages_of items)
 
 -- the closure by halves of a list of cells: the least set that holds them and, with k cells of a row or a column, all of it
@@ -51,7 +51,7 @@ pub data Reached (k : ℕ) (cells : List Cell) : Cell → Type 0 where
 -- the data is available to this light node, which planned these cells
 pub record IsAvailable (net : Network) (pool : List Item) (steps : List Kept) (node : ℕ) (plan : List Cell) : Type 0 where
   pub is_light : slice_get net.nodes node ≡ Some (light plan)
-  pub stands : Stands net.header (light plan) (handed pool steps node) available
+  pub stands : NodeMayStand net.header (light plan) (handed pool steps node) available
 
 -- it is available to each of these nodes
 abbrev pub AreAvailable : Network → List Item → List Kept → List ℕ → Type 0

@@ -14,16 +14,16 @@ use Rattle.da_net.specs.declared.seats.Node.TheVariants.{Full, Light}
 use Rattle.da_net.specs.declared.seats.Seat.{Seat}
 use Rattle.da_net.specs.declared.seats.Entry.{Entry}
 use Rattle.da_net.specs.declared.copies.ClaimRoom.{ClaimRoom}
-use Rattle.da_net.specs.Networks.{Kind, full, light, Network, Standing, rejecting, Stands, handed, IsRun}
-use Rattle.da_net.specs.Nodes.{HasSpare, standing_by, IsFullNode, IsLightNode}
-use Rattle.da_net.specs.Nets.{Fits, claim_in, is_publishing}
+use Rattle.da_net.specs.Networks.{NodeKind, full, light, Network, Standing, rejecting, NodeMayStand, handed, IsRun}
+use Rattle.da_net.specs.Nodes.{HasSpareClaim, standing_by, IsFullNode, IsLightNode}
+use Rattle.da_net.specs.Nets.{FitsAlarm, rejecting_claim, is_publishing}
 
 -- ---- nodes
 
 -- what kind of node this is
-abbrev pub kind_of : {F : Type 0} → Node F → Kind
-kind_of (Full node) = full
-kind_of (Light node) = light node.wanted
+abbrev pub node_kind : {F : Type 0} → Node F → NodeKind
+node_kind (Full node) = full
+node_kind (Light node) = light node.wanted
 
 -- what alarmed a full node, by what ended it
 abbrev pub alarm_by : Option End → Option Standing
@@ -47,30 +47,30 @@ IsNodeFor picks header items (Light node) = IsLightNode picks header items node
 
 -- there is a room for a claim, where none is held
 abbrev pub HasSpareFor : ℕ → Option ClaimParts → Option ClaimRoom → Type 0
-HasSpareFor k None spare = HasSpare k spare
+HasSpareFor k None spare = HasSpareClaim k spare
 HasSpareFor k (Some claim) spare = Unit {0}
 
 -- there is a room for a claim, where none was published
 abbrev pub HasUnpublished : ℕ → Bool → Option ClaimRoom → Type 0
-HasUnpublished k false spare = HasSpare k spare
+HasUnpublished k false spare = HasSpareClaim k spare
 HasUnpublished k true spare = spare ≡ None
 
 -- a seat whose node was handed these items
 pub record IsSeat {F : Type 0} (picks : F → ℕ → Cell → Type 0) (header : Roots) (items : List Item) (seat : Seat F) : Type 0 where
   pub is_node : IsNodeFor picks header items seat.node
-  pub spare : HasSpareFor header.k (claim_in (alarm_of seat.node)) seat.kept
+  pub spare : HasSpareFor header.k (rejecting_claim (alarm_of seat.node)) seat.kept
 
 -- a seat whose node was handed these items now; it is of its kind, and keeps a claim that it held
 pub record IsSeatStep {F : Type 0} (picks : F → ℕ → Cell → Type 0) (header : Roots) (items : List Item) (old new : Seat F) : Type 0 where
   pub seat : IsSeat picks header items new
-  pub kind : kind_of new.node ≡ kind_of old.node
-  pub keeps : (claim : ClaimParts) → claim_in (alarm_of old.node) ≡ Some claim → claim_in (alarm_of new.node) ≡ Some claim
+  pub kind : node_kind new.node ≡ node_kind old.node
+  pub keeps : (claim : ClaimParts) → rejecting_claim (alarm_of old.node) ≡ Some claim → rejecting_claim (alarm_of new.node) ≡ Some claim
   pub unpublished : new.published ≡ old.published
 
 -- how the node of a seat stands that was handed these items
 pub record SeatStands {F : Type 0} (header : Roots) (items : List Item) (seat : Seat F) (standing : Standing) : Type 0 where
-  pub stands : Stands header (kind_of seat.node) items standing
-  pub fits : Fits (alarm_of seat.node) standing
+  pub stands : NodeMayStand header (node_kind seat.node) items standing
+  pub fits : FitsAlarm (alarm_of seat.node) standing
 
 -- ---- items
 
@@ -80,28 +80,28 @@ IsAcceptedItem header (item.Message m) = ⊥
 IsAcceptedItem header (item.Claim claim) = Accepts header claim
 
 -- an item of the pool, and whether it is an accepted claim
-abbrev pub IsJudged : Roots → Entry → Type 0
-IsJudged header entry = (entry.accepted ≡ true) ↔ IsAcceptedItem header entry.item
+abbrev pub IsJudgedEntry : Roots → Entry → Type 0
+IsJudgedEntry header entry = (entry.accepted ≡ true) ↔ IsAcceptedItem header entry.item
 
 -- the items of a pool
-abbrev pub items_in : List Entry → List Item
-items_in pool = map (λ entry. entry.item) pool
+abbrev pub pool_items : List Entry → List Item
+pool_items pool = map (λ entry. entry.item) pool
 
 -- ---- networks
 
 -- the header and the nodes of seats
 abbrev pub network_with : {F : Type 0} → Roots → List (Seat F) → Network
-network_with header seats = record { header = header; nodes = map (λ seat. kind_of seat.node) seats }
+network_with header seats = record { header = header; nodes = map (λ seat. node_kind seat.node) seats }
 
 -- what holds of each network
 pub record IsNet {F : Type 0} (picks : F → ℕ → Cell → Type 0) (header : Roots) (seats : List (Seat F)) (pool : List Entry)
     (steps : List Kept) : Type 0 where
-  pub run : IsRun (network_with header seats) (items_in pool) steps
+  pub run : IsRun (network_with header seats) (pool_items pool) steps
   pub seated : (node : ℕ) (seat : Seat F) → slice_get seats node ≡ Some seat
-      → IsSeat picks header (handed (items_in pool) steps node) seat
+      → IsSeat picks header (handed (pool_items pool) steps node) seat
   pub unpublished : (node : ℕ) (seat : Seat F) → slice_get seats node ≡ Some seat
       → HasUnpublished header.k (list_any (is_publishing node) steps) seat.published
-  pub judged : (place : ℕ) (entry : Entry) → slice_get pool place ≡ Some entry → IsJudged header entry
+  pub judged : (place : ℕ) (entry : Entry) → slice_get pool place ≡ Some entry → IsJudgedEntry header entry
 
 -- a list has at most so many values, and capacity for as many
 pub record HasPlaces {A : Type 0} (most : ℕ) (out : Vec A Global) : Type 0 where
@@ -110,14 +110,14 @@ pub record HasPlaces {A : Type 0} (most : ℕ) (out : Vec A Global) : Type 0 whe
 
 -- the claim of a node was copied into the room for publishing
 pub record IsCopied {F : Type 0} (old new : Seat F) (claim : ClaimParts) : Type 0 where
-  pub held : claim_in (alarm_of old.node) ≡ Some claim
+  pub held : rejecting_claim (alarm_of old.node) ≡ Some claim
   pub node_is : new.node ≡ old.node
   pub kept_is : new.kept ≡ old.kept
   pub used : new.published ≡ None
 
 -- a seat of a node of this kind to which nothing was handed
-pub record IsFreshSeat {F : Type 0} (picks : F → ℕ → Cell → Type 0) (header : Roots) (kind : Kind) (seat : Seat F) : Type 0 where
+pub record IsFreshSeat {F : Type 0} (picks : F → ℕ → Cell → Type 0) (header : Roots) (kind : NodeKind) (seat : Seat F) : Type 0 where
   pub seat_is : IsSeat picks header [] seat
-  pub kind_is : kind_of seat.node ≡ kind
+  pub kind_is : node_kind seat.node ≡ kind
   pub calm : alarm_of seat.node ≡ None
-  pub unpublished : HasSpare header.k seat.published
+  pub unpublished : HasSpareClaim header.k seat.published

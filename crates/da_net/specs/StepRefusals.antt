@@ -4,7 +4,7 @@ use Rattle.std.specs.List.{Contains}
 use Rattle.da_net.specs.declared.items.NetEvent.{NetEvent}
 use Rattle.da_net.specs.declared.items.NetEvent.TheVariants as event
 use Rattle.da_net.specs.declared.items.Kept.TheVariants as kept
-use Rattle.da_net.specs.Nets.{NetParts, alarm_at, claim_in}
+use Rattle.da_net.specs.Nets.{NetParts, alarm_at, rejecting_claim}
 
 -- there is no capacity for an event: for one more step, or for the item that it puts into the pool
 abbrev pub IsFull : NetParts → NetEvent → Type 0
@@ -36,11 +36,11 @@ LacksNode net (event.Publish by) = HasBoth net × (length net.nodes ≤ by)
 abbrev pub LacksClaim : NetParts → NetEvent → Type 0
 LacksClaim net (event.Put one) = ⊥
 LacksClaim net (event.Hand place to) = ⊥
-LacksClaim net (event.Publish by) = HasBoth net × (by < length net.nodes) × (claim_in (alarm_at net by) ≡ None)
+LacksClaim net (event.Publish by) = HasBoth net × (by < length net.nodes) × (rejecting_claim (alarm_at net by) ≡ None)
 
 -- a node that rejects is to publish, and one of the steps is its publishing
 abbrev pub PublishesAgain : NetParts → NetEvent → Type 0
 PublishesAgain net (event.Put one) = ⊥
 PublishesAgain net (event.Hand place to) = ⊥
 PublishesAgain net (event.Publish by) =
-    HasBoth net × (by < length net.nodes) × IsSome (claim_in (alarm_at net by)) × Contains net.steps (kept.Publish by)
+    HasBoth net × (by < length net.nodes) × IsSome (rejecting_claim (alarm_at net by)) × Contains net.steps (kept.Publish by)

@@ -2,7 +2,7 @@
 
 ghost use Rattle.std.specs.Prelude.{◌≡◌, ◌≤◌, [], length, IfSome};
 ghost use Rattle.namespace_id.specs.Answers.{HasRoom};
-ghost use Rattle.da_net.specs.Nodes.{IsSpare};
+ghost use Rattle.da_net.specs.Nodes.{IsSpareClaim};
 
 use axis_roots::{FraudClaim, FraudProof, Message, SetNodes};
 use namespace_id::Digest;
@@ -68,7 +68,7 @@ fn copy_set(set: &Option<SetNodes>, room: Vec<Digest>) -> Option<SetNodes>
 
 /// A copy of a claim.
 pub(crate) fn copy_claim(claim: &FraudClaim, room: ClaimRoom) -> FraudClaim
-    requires spare { IsSpare (length claim.now.cells) room }
+    requires spare { IsSpareClaim (length claim.now.cells) room }
     requires few { IfSome claim.now.set (λ nodes. length nodes ≤ length claim.now.cells) }
     ensures { result ≡ claim.now }
 {
@@ -87,7 +87,7 @@ pub(crate) fn copy_claim(claim: &FraudClaim, room: ClaimRoom) -> FraudClaim
 
 /// The claim of a fraud proof.
 pub(crate) fn claim_of(proof: FraudProof, room: ClaimRoom) -> FraudClaim
-    requires { IsSpare (length proof.claim.cells) room }
+    requires { IsSpareClaim (length proof.claim.cells) room }
     ensures { result ≡ proof.claim }
 {
     let FraudProof {

@@ -5,12 +5,12 @@ ghost use Rattle.axis_roots.specs.declared.message.messages.Message.{Message as 
 ghost use Rattle.axis_roots.specs.Proved.{IsUnder, kept_message};
 ghost use Rattle.axis_roots.specs.Claims.{ClaimParts, Accepts};
 ghost use Rattle.repair_queue.specs.Verdicts.{fraud};
-ghost use Rattle.repair_queue.specs.Answers.{parts_of};
-ghost use Rattle.repair_queue.specs.SessionParts.{StandsFor};
+ghost use Rattle.repair_queue.specs.Answers.{verdict_parts};
+ghost use Rattle.repair_queue.specs.SessionParts.{SessionStands};
 ghost use Rattle.da_net.specs.declared.items.Item.{Item as Handed};
 ghost use Rattle.da_net.specs.declared.items.Item.TheVariants as item;
 ghost use Rattle.da_net.specs.Networks.{rejecting, IsRejecting, IsClashing};
-ghost use Rattle.da_net.specs.Nodes.{HasSpare, standing_by, IsFullNode, IsEnding, EndsSo, IsFed, SpareAfter};
+ghost use Rattle.da_net.specs.Nodes.{HasSpareClaim, standing_by, IsFullNode, IsEnding, EndsSo, ComesOfFeeding, SpareAfter};
 
 use crate::copies::{ClaimRoom, claim_of, copy_claim};
 use axis_roots::{FraudClaim, Message, Proved, check};
@@ -41,10 +41,10 @@ pub(crate) struct FullNode {
 
 /// What ends a node whose session has this verdict, which is a fraud proof or a collision.
 fn end_of(verdict: Verdict, room: &mut Option<ClaimRoom>) -> End
-    requires ending { IsEnding (parts_of verdict) }
-    requires room { (claim : ClaimParts) → parts_of verdict ≡ fraud claim →
-        HasSpare (length claim.cells) room.old }
-    ensures ends { EndsSo (parts_of verdict) result }
+    requires ending { IsEnding (verdict_parts verdict) }
+    requires room { (claim : ClaimParts) → verdict_parts verdict ≡ fraud claim →
+        HasSpareClaim (length claim.cells) room.old }
+    ensures ends { EndsSo (verdict_parts verdict) result }
     ensures room { SpareAfter room.old room.new result }
 {
     match verdict {
@@ -57,11 +57,11 @@ fn end_of(verdict: Verdict, room: &mut Option<ClaimRoom>) -> End
 /// Feeds a session, and finishes it where that ends it.
 fn feed(session: Session, header: &Header, proved: Proved, room: &mut Option<ClaimRoom>) -> Fed
     requires header { session.header ≡ header.now }
-    requires fed { (fed : List Sent) × StandsFor session fed }
+    requires fed { (fed : List Sent) × SessionStands session fed }
     requires under { IsUnder header.now proved }
-    requires room { HasSpare header.now.k room.old }
-    ensures fed { (fed : List Sent) → StandsFor session fed →
-        IsFed header.now (fed ++ kept_message proved ∷ []) room.old room.new result }
+    requires room { HasSpareClaim header.now.k room.old }
+    ensures fed { (fed : List Sent) → SessionStands session fed →
+        ComesOfFeeding header.now (fed ++ kept_message proved ∷ []) room.old room.new result }
 {
     let mut session = session;
     match session.feed(proved) {
@@ -86,11 +86,11 @@ impl FullNode {
     pub(crate) fn take(&mut self, header: &Header, message: Message, room: &mut Option<ClaimRoom>)
         requires node { (items : List Handed) × IsFullNode header.now items self.old }
         requires room { (IsRejecting (standing_by self.old.end) → ⊥) →
-            HasSpare header.now.k room.old }
+            HasSpareClaim header.now.k room.old }
         ensures stands { (items : List Handed) → IsFullNode header.now items self.old →
             IsFullNode header.now (items ++ item.Message message ∷ []) self.new }
         ensures room { (IsRejecting (standing_by self.new.end) → ⊥) →
-            HasSpare header.now.k room.new }
+            HasSpareClaim header.now.k room.new }
         ensures keeps { IsRejecting (standing_by self.old.end) → self.new.end ≡ self.old.end }
         ensures clashes { IsClashing (standing_by self.old.end) → self.new.end ≡ self.old.end }
     {
@@ -118,7 +118,7 @@ impl FullNode {
     )
         requires accepts { Accepts header.now claim.now }
         requires room { (IsRejecting (standing_by self.old.end) → ⊥) →
-            HasSpare header.now.k room.old }
+            HasSpareClaim header.now.k room.old }
         ensures stands { (items : List Handed) → IsFullNode header.now items self.old →
             IsFullNode header.now (items ++ item.Claim claim.now ∷ []) self.new }
         ensures rejects { IsRejecting (standing_by self.new.end) }

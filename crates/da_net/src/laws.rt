@@ -15,8 +15,8 @@ ghost use Rattle.repair_queue.specs.Verdicts.{IsVerdict, whole};
 ghost use Rattle.da_net.specs.declared.items.Item.{Item as Handed};
 ghost use Rattle.da_net.specs.declared.items.Item.TheVariants as item;
 ghost use Rattle.da_net.specs.declared.items.Kept.{Kept as Step};
-ghost use Rattle.da_net.specs.Networks.{messages_of, Kind, full, Network, Standing, settled, rejecting, Stands, IsRejecting, IsClashing, handed, IsRun};
-ghost use Rattle.da_net.specs.Promises.{WasHanded, IsComplete, Reached};
+ghost use Rattle.da_net.specs.Networks.{messages_of, NodeKind, full, Network, Standing, settled, rejecting, NodeMayStand, IsRejecting, IsClashing, handed, IsRun};
+ghost use Rattle.da_net.specs.Promises.{WasHanded, HasAllCells, Reached};
 ghost use Rattle.da_net.specs.Laws.{ClaimsReject, AlarmsAreNamed, OtherAlarmsAreNamed, OneSquare, PlannedAreRecoverable, AllAreRecoverable};
 
 /// What is proved of the items that nodes are handed.
@@ -45,15 +45,15 @@ pub fn delivery_laws()
 /// docs/RULES.md, "Networks".
 pub fn rejection_laws()
     // Who rejects holds an accepted claim.
-    ensures holds { (header : Roots) (kind : Kind) (items : List Handed) (claim : ClaimParts) →
-        Stands header kind items (rejecting claim) → Accepts header claim }
+    ensures holds { (header : Roots) (kind : NodeKind) (items : List Handed) (claim : ClaimParts) →
+        NodeMayStand header kind items (rejecting claim) → Accepts header claim }
 
     // Who was handed an accepted claim rejects from then on, whatever comes later.
     ensures rejects { ClaimsReject }
 
     // A full node that neither rejects nor shows a collision is settled.
     ensures settled { (header : Roots) (items : List Handed) (standing : Standing) →
-        Stands header full items standing → IsRejecting standing ⊎
+        NodeMayStand header full items standing → IsRejecting standing ⊎
         (IsClashing standing ⊎ ((standing ≡ settled) × IsSettled header (messages_of items))) }
 
     // Under the header of a square a node rejects or has a collision only where a sample in the pool,
@@ -67,7 +67,7 @@ pub fn rejection_laws()
 pub fn agreement_laws()
     // Such a node has a square whose header is the network's.
     ensures square { (header : Roots) (items : List Handed) → AreRoots header →
-        IsComplete header items →
+        HasAllCells header items →
         (square : SquareShares) × IsVerdict header (messages_of items) (whole square) }
     ensures header { (header : Roots) (items : List Handed) (square : SquareShares) →
         IsVerdict header (messages_of items) (whole square) → IsHeaderOf header square }

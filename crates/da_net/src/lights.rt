@@ -5,7 +5,7 @@ ghost use Rattle.data_header.specs.Headers.{Roots};
 ghost use Rattle.axis_roots.specs.Claims.{ClaimParts, Accepts};
 ghost use Rattle.da_net.specs.declared.items.Item.{Item as Handed};
 ghost use Rattle.da_net.specs.declared.items.Item.TheVariants as item;
-ghost use Rattle.da_net.specs.Nodes.{HasSpare, IsLightNode, Rejects, IsLightStep};
+ghost use Rattle.da_net.specs.Nodes.{HasSpareClaim, IsLightNode, Rejects, IsLightStep};
 
 use crate::copies::{ClaimRoom, copy_claim};
 use axis_roots::{FraudClaim, Message};
@@ -30,7 +30,7 @@ pub(crate) fn hand_claim<F: Picker>(
 )
     requires node { (items : List Handed) × IsLightNode F.picks header.now items node.old }
     requires accepts { Accepts header.now claim.now }
-    requires room { (Rejects node.old.claim → ⊥) → HasSpare header.now.k room.old }
+    requires room { (Rejects node.old.claim → ⊥) → HasSpareClaim header.now.k room.old }
     ensures step { (items : List Handed) → IsLightNode F.picks header.now items node.old →
         IsLightStep F.picks header.now (items ++ item.Claim claim.now ∷ []) node.old node.new }
     ensures rejects { Rejects node.new.claim }

@@ -2,8 +2,8 @@
 
 ghost use Rattle.std.specs.Prelude.{◌++◌, List, replicate, map, IfOk};
 ghost use Rattle.std.specs.List.{AllByRecursion, AllZip};
-ghost use Rattle.da_net.specs.Networks.{Kind, full, light};
-ghost use Rattle.da_net.specs.Nodes.{HasSpare, IsFresh};
+ghost use Rattle.da_net.specs.Networks.{NodeKind, full, light};
+ghost use Rattle.da_net.specs.Nodes.{HasSpareClaim, IsFreshNode};
 ghost use Rattle.da_net.specs.Seats.{IsFreshSeat};
 
 use crate::copies::ClaimRoom;
@@ -17,7 +17,7 @@ use std::alloc::Global;
 
 /// A room for a claim of a square of width `k`.
 fn spare(alloc: Global, k: u16) -> Result<Option<ClaimRoom>, NoMemory>
-    ensures { IfOk result (HasSpare k) }
+    ensures { IfOk result (HasSpareClaim k) }
 {
     let Ok(cells) = Vec::with_capacity(alloc, k as usize) else {
         return Err(NoMemory);
@@ -52,7 +52,7 @@ fn light_seat<F: Picker>(
     header: &Header,
     node: LightNode<F>,
 ) -> Result<Seat<F>, NoMemory>
-    requires { IsFresh F.picks header.now node }
+    requires { IsFreshNode F.picks header.now node }
     ensures { IfOk result (IsFreshSeat F.picks header.now (light node.wanted)) }
 {
     let kept = spare(alloc, header.k)?;
@@ -91,8 +91,8 @@ fn add_lights<F: Picker>(
     lights: Vec<LightNode<F>>,
     seats: Vec<Seat<F>>,
 ) -> Result<Vec<Seat<F>>, NoMemory>
-    requires { AllByRecursion (IsFresh F.picks header.now) lights.items }
-    ensures { IfOk result (λ more. (kinds : List Kind) →
+    requires { AllByRecursion (IsFreshNode F.picks header.now) lights.items }
+    ensures { IfOk result (λ more. (kinds : List NodeKind) →
         AllZip (IsFreshSeat F.picks header.now) kinds seats.items →
         AllZip (IsFreshSeat F.picks header.now) (kinds ++ map (λ n. light n.wanted) lights.items)
         more.items) }
@@ -114,7 +114,7 @@ pub(crate) fn make_seats<F: Picker>(
     count: u16,
     lights: Vec<LightNode<F>>,
 ) -> Result<Vec<Seat<F>>, NoMemory>
-    requires { AllByRecursion (IsFresh F.picks header.now) lights.items }
+    requires { AllByRecursion (IsFreshNode F.picks header.now) lights.items }
     ensures { IfOk result (λ seats. AllZip (IsFreshSeat F.picks header.now)
         (replicate count full ++ map (λ n. light n.wanted) lights.items) seats.items) }
 {

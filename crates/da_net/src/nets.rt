@@ -10,10 +10,10 @@ ghost use Rattle.repair_queue.specs.Settled.{IsSettled};
 ghost use Rattle.da_net.specs.declared.items.Item.TheVariants as item;
 ghost use Rattle.da_net.specs.declared.items.NetEvent.TheVariants as event;
 ghost use Rattle.da_net.specs.declared.items.Kept.TheVariants as kept;
-ghost use Rattle.da_net.specs.Networks.{Kind, light, messages_of, handed, IsRun};
+ghost use Rattle.da_net.specs.Networks.{NodeKind, light, messages_of, handed, IsRun};
 ghost use Rattle.da_net.specs.Promises.{PoolNames};
-ghost use Rattle.da_net.specs.Nodes.{IsFresh};
-ghost use Rattle.da_net.specs.Nets.{fresh, is_too_many, clash_in, AreMissed, network_of, has_claim, why_not, why_not_hand, why_not_publish, HasHappened, HasState, alarm_at, claim_in, is_publishing, is_pooling, is_full, IsSame, IsPooled, IsHanded, IsPublished};
+ghost use Rattle.da_net.specs.Nodes.{IsFreshNode};
+ghost use Rattle.da_net.specs.Nets.{fresh, is_too_many, clash_in, AreMissed, network_of, has_claim, why_not, why_not_hand, why_not_publish, HasHappened, HasState, alarm_at, rejecting_claim, is_publishing, is_pooling, is_full, IsSameNet, IsPooled, IsHanded, IsPublished};
 ghost use Rattle.da_net.specs.StepRefusals.{IsFull, LacksItem, LacksNode, LacksClaim, PublishesAgain};
 
 use crate::items::{Item, Kept, NetError, NetEvent, NodeState, StepRefusal, Stepped};
@@ -43,17 +43,17 @@ pub struct Net<F: Picker> {
 impl<F: Picker> Model for Net<F> {
     ghost use Rattle.std.specs.Prelude.{◌≡◌, map};
     ghost use Rattle.da_net.specs.Nets.{NetParts};
-    ghost use Rattle.da_net.specs.Seats.{kind_of, alarm_of, items_in, IsNet, HasPlaces};
+    ghost use Rattle.da_net.specs.Seats.{node_kind, alarm_of, pool_items, IsNet, HasPlaces};
 
     ghost Value = { NetParts };
 
     ghost view = { λ n. record {
       header = n.header;
-      nodes = map (λ seat. kind_of seat.node) n.seats.items;
+      nodes = map (λ seat. node_kind seat.node) n.seats.items;
       alarms = map (λ seat. alarm_of seat.node) n.seats.items;
       most_items = n.most_items;
       most_steps = n.most_steps;
-      pool = items_in n.pool.items;
+      pool = pool_items n.pool.items;
       steps = n.steps.items;
     } };
 
@@ -93,7 +93,7 @@ impl<F: Picker> Net<F> {
     /// Puts an item into the pool.
     fn put(&mut self, item: Item) -> u32
         requires { is_full self.old (event.Put item) ≡ false }
-        ensures kept { IsSame self.old self.new }
+        ensures kept { IsSameNet self.old self.new }
         ensures pooled { IsPooled self.old self.new item kept.Put result }
     {
         let place = self.pool.len() as u32;
@@ -108,7 +108,7 @@ impl<F: Picker> Net<F> {
         requires room { is_full self.old (event.Hand item node) ≡ false }
         requires item { item < length self.old.pool }
         requires node { node < length self.old.nodes }
-        ensures kept { IsSame self.old self.new }
+        ensures kept { IsSameNet self.old self.new }
         ensures handed { IsHanded self.old self.new item node result }
     {
         let seat = &mut self.seats[node as usize];
@@ -122,9 +122,9 @@ impl<F: Picker> Net<F> {
     fn publish(&mut self, by: u16) -> u32
         requires room { is_full self.old (event.Publish by) ≡ false }
         requires node { by < length self.old.nodes }
-        requires rejects { IsSome (claim_in (alarm_at self.old by)) }
+        requires rejects { IsSome (rejecting_claim (alarm_at self.old by)) }
         requires first { list_any (is_publishing by) self.old.steps ≡ false }
-        ensures kept { IsSame self.old self.new }
+        ensures kept { IsSameNet self.old self.new }
         ensures published { IsPublished self.old self.new by result }
     {
         let place = self.pool.len() as u32;
@@ -140,7 +140,7 @@ impl<F: Picker> Net<F> {
     /// Whether a node rejects.
     fn is_rejecting(&self, node: u16) -> bool
         requires { node < length self.now.nodes }
-        ensures { result ≡ has_claim (claim_in (alarm_at self.now node)) }
+        ensures { result ≡ has_claim (rejecting_claim (alarm_at self.now node)) }
     {
         claim(&self.seats[node as usize]).is_some()
     }
@@ -156,7 +156,7 @@ impl<F: Picker> Net<F> {
     /// Hands an item to a node, where both are there.
     fn try_hand(&mut self, item: u32, node: u16) -> Result<Stepped, StepRefusal>
         requires room { is_full self.old (event.Hand item node) ≡ false }
-        ensures kept { IsSame self.old self.new }
+        ensures kept { IsSameNet self.old self.new }
         ensures refusal { refusal_in result ≡ why_not_hand self.old item node }
         ensures happened { IfOk result (HasHappened self.old (event.Hand item node) self.new) }
         ensures unchanged { OnErr result (self.new ≡ self.old) }
@@ -173,7 +173,7 @@ impl<F: Picker> Net<F> {
     /// Publishes the claim of a node, where it is there, rejects, and hasn't published it.
     fn try_publish(&mut self, by: u16) -> Result<Stepped, StepRefusal>
         requires room { is_full self.old (event.Publish by) ≡ false }
-        ensures kept { IsSame self.old self.new }
+        ensures kept { IsSameNet self.old self.new }
         ensures refusal { refusal_in result ≡ why_not_publish self.old by }
         ensures happened { IfOk result (HasHappened self.old (event.Publish by) self.new) }
         ensures unchanged { OnErr result (self.new ≡ self.old) }
@@ -203,7 +203,7 @@ impl<F: Picker> Net<F> {
         ensures refusal { refusal_in result ≡ why_not self.old event }
         ensures happened { IfOk result (HasHappened self.old event self.new) }
         ensures unchanged { OnErr result (self.new ≡ self.old) }
-        ensures kept { IsSame self.old self.new }
+        ensures kept { IsSameNet self.old self.new }
     {
         if self.is_full(&event) {
             return Err(StepRefusal::Full(event));
@@ -238,7 +238,7 @@ impl<F: Picker> Net<F> {
         // What a step did; a refusal changes nothing.
         ensures happened { IfOk result (HasHappened self.old event self.new) }
         ensures unchanged { OnErr result (self.new ≡ self.old) }
-        ensures kept { IsSame self.old self.new }
+        ensures kept { IsSameNet self.old self.new }
     {
         self.try_step(event)
     }
@@ -271,7 +271,7 @@ impl<F: Picker> Net<F> {
     /// The claim by which a node rejects, the first that it held; none where it doesn't reject. It takes no memory.
     pub fn claim(&self, node: u16) -> Option<&FraudClaim>
         requires { node < length self.now.nodes }
-        ensures value { option_copied result ≡ claim_in (alarm_at self.now node) }
+        ensures value { option_copied result ≡ rejecting_claim (alarm_at self.now node) }
         ensures accepts { IfSome (option_copied result) (Accepts self.now.header) }
     {
         claim(&self.seats[node as usize])
@@ -294,7 +294,7 @@ impl<F: Picker> Net<F> {
         requires open { alarm_at self.now node ≡ None }
         requires room { room.old.k ≡ self.now.header.k }
         ensures width { room.new.k ≡ room.old.k }
-        ensures missed { (kind : Kind) → slice_get self.now.nodes node ≡ Some kind →
+        ensures missed { (kind : NodeKind) → slice_get self.now.nodes node ≡ Some kind →
             AreMissed self.now.header kind (handed self.now.pool self.now.steps node) room.new }
     {
         missing(&self.seats[node as usize], room);
@@ -314,7 +314,7 @@ impl<F: Picker> Net<F> {
         items: u32,
         steps: u32,
     ) -> Result<Net<F>, NetError>
-        requires lights { AllByRecursion (IsFresh F.picks header) lights.items }
+        requires lights { AllByRecursion (IsFreshNode F.picks header) lights.items }
         ensures too_many { IsErrOf result NetError.TooMany ↔
             (is_too_many full (vec_len lights) items steps ≡ true) }
         ensures made { IfOk result (λ net. net ≡ fresh header full

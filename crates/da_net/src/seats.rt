@@ -5,10 +5,10 @@ ghost use Rattle.axis_roots.specs.Claims.{Accepts};
 ghost use Rattle.data_header.specs.Headers.{Roots};
 ghost use Rattle.da_net.specs.declared.items.Item.{Item as Handed};
 ghost use Rattle.da_net.specs.declared.items.Item.TheVariants as item;
-ghost use Rattle.da_net.specs.Networks.{Standing, clashing, rejecting, IsItem};
-ghost use Rattle.da_net.specs.Nets.{state_of, light_state, claim_in, clash_in, AreMissed, AfterClash};
-ghost use Rattle.da_net.specs.Nodes.{HasSpare, standing_by};
-ghost use Rattle.da_net.specs.Seats.{kind_of, alarm_of, IsSeat, IsSeatStep, SeatStands, IsJudged, IsCopied};
+ghost use Rattle.da_net.specs.Networks.{Standing, clashing, rejecting, IsNetItem};
+ghost use Rattle.da_net.specs.Nets.{standing_state, light_state, rejecting_claim, clash_in, AreMissed, AfterClash};
+ghost use Rattle.da_net.specs.Nodes.{HasSpareClaim, standing_by};
+ghost use Rattle.da_net.specs.Seats.{node_kind, alarm_of, IsSeat, IsSeatStep, SeatStands, IsJudgedEntry, IsCopied};
 
 use crate::copies::{ClaimRoom, copy_claim, copy_message};
 use crate::full::{End, FullNode};
@@ -48,8 +48,8 @@ pub(crate) fn judge(room: &mut VerifyRoom, header: &Header, item: Item) -> Entry
     requires room { room.old ≡ header.now.k }
     ensures room { room.new ≡ room.old }
     ensures item { result.item ≡ item }
-    ensures shape { IsItem item }
-    ensures judged { IsJudged header.now result }
+    ensures shape { IsNetItem item }
+    ensures judged { IsJudgedEntry header.now result }
 {
     match item {
         Item::Message(message) => {
@@ -107,7 +107,7 @@ fn hand_accepted<F: Picker>(seat: &mut Seat<F>, header: &Header, claim: &FraudCl
 /// Hands an item to a node.
 pub(crate) fn hand<F: Picker>(seat: &mut Seat<F>, header: &Header, entry: &Entry)
     requires seat { (items : List Handed) × IsSeat F.picks header.now items seat.old }
-    requires judged { IsJudged header.now entry.now }
+    requires judged { IsJudgedEntry header.now entry.now }
     ensures step { (items : List Handed) → IsSeat F.picks header.now items seat.old →
         IsSeatStep F.picks header.now (items ++ entry.now.item ∷ []) seat.old seat.new }
     ensures clashes { (left right : List ℕ) →
@@ -126,7 +126,7 @@ pub(crate) fn hand<F: Picker>(seat: &mut Seat<F>, header: &Header, entry: &Entry
 
 /// The state of a full node, by what ended it.
 fn state_by(end: &Option<End>) -> NodeState
-    ensures { result ≡ state_of (standing_by end.now) }
+    ensures { result ≡ standing_state (standing_by end.now) }
 {
     match end {
         None => NodeState::Open,
@@ -150,7 +150,7 @@ fn state_with(state: LightState) -> NodeState
 pub(crate) fn state<F: Picker>(seat: &Seat<F>) -> NodeState
     ensures { (header : Roots) (items : List Handed) → IsSeat F.picks header items seat.now →
         (standing : Standing) × SeatStands header items seat.now standing
-        × (result ≡ state_of standing) }
+        × (result ≡ standing_state standing) }
 {
     match &seat.node {
         Node::Full(node) => state_by(&node.end),
@@ -161,7 +161,7 @@ pub(crate) fn state<F: Picker>(seat: &Seat<F>) -> NodeState
 /// The claim by which a node rejects.
 pub(crate) fn claim<F: Picker>(seat: &Seat<F>) -> Option<&FraudClaim>
     requires seat { (header : Roots) × (items : List Handed) × IsSeat F.picks header items seat.now }
-    ensures { option_copied result ≡ claim_in (alarm_of seat.now.node) }
+    ensures { option_copied result ≡ rejecting_claim (alarm_of seat.now.node) }
 {
     light_laws();
     match &seat.node {
@@ -176,8 +176,8 @@ pub(crate) fn claim<F: Picker>(seat: &Seat<F>) -> Option<&FraudClaim>
 /// Copies the claim by which a node rejects into the room for publishing it.
 pub(crate) fn copied<F: Picker>(seat: &mut Seat<F>, header: &Header) -> FraudClaim
     requires seat { (items : List Handed) × IsSeat F.picks header.now items seat.old }
-    requires rejects { IsSome (claim_in (alarm_of seat.old.node)) }
-    requires room { HasSpare header.now.k seat.old.published }
+    requires rejects { IsSome (rejecting_claim (alarm_of seat.old.node)) }
+    requires room { HasSpareClaim header.now.k seat.old.published }
     ensures { IsCopied seat.old seat.new result }
 {
     let room = seat.published.take().unwrap();
@@ -205,7 +205,7 @@ pub(crate) fn missing<F: Picker>(seat: &Seat<F>, room: &mut CellRoom)
         × (room.old.k ≡ header.k) }
     ensures width { room.new.k ≡ room.old.k }
     ensures missed { (header : Roots) (items : List Handed) → IsSeat F.picks header items seat.now →
-        AreMissed header (kind_of seat.now.node) items room.new }
+        AreMissed header (node_kind seat.now.node) items room.new }
 {
     match &seat.node {
         Node::Full(node) => {

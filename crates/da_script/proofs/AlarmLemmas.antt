@@ -21,20 +21,20 @@ use Rattle.da_net.specs.declared.items.NetEvent.TheVariants as event
 use Rattle.da_net.specs.declared.items.NodeState.{NodeState}
 use Rattle.da_net.specs.declared.items.Stepped.{Stepped}
 use Rattle.da_net.specs.declared.items.Stepped.TheVariants as stepped
-use Rattle.da_net.specs.Networks.{Kind, Network, Standing, settled, clashing, waiting, available, rejecting, Stands, handed, IsRun}
+use Rattle.da_net.specs.Networks.{NodeKind, Network, Standing, settled, clashing, waiting, available, rejecting, NodeMayStand, handed, IsRun}
 use Rattle.da_net.specs.Promises.{IsAlarmed, PoolNames}
-use Rattle.da_net.specs.Nets.{NetParts, network_of, HasStanding, state_of, HasHappened, IsPooled, IsSame}
+use Rattle.da_net.specs.Nets.{NetParts, network_of, HasStanding, standing_state, HasHappened, IsPooled, IsSameNet}
 use Rattle.da_script.specs.declared.reading.Move.{Move}
 use Rattle.da_script.specs.declared.reading.Move.TheVariants as move
-use Rattle.da_script.specs.Plays.{first_net, event_of, state_word, step_line, refusal_number, refused_line, Goes, done, refused, GoOn, HasTail, IsLine, AreLines, Tells}
+use Rattle.da_script.specs.Plays.{first_net, event_of, state_word, step_line, refusal_number, refused_line, Goes, done, refused, GoOn, HasTail, IsNodeLine, AreNodeLines, TellsPlay}
 use Rattle.da_script.specs.Alarms.{SaysAlarm, TellsOwn}
 use Rattle.da_script.proofs.LetterLemmas.{has_c, without_c, decimal_plain, c_within}
 use Rattle.da_script.proofs.StepLemmas.{pushed_parts, Before, before_last}
 
 -- a node of a run under the header of a square rejects or has a collision only where the pool and the square name one
 abbrev pub AlarmsName : Type 0
-AlarmsName = (net : Network) (pool : List Item) (steps : List Kept) (node : ℕ) (kind : Kind) (standing : Standing) (square : SquareShares)
-    → IsRun net pool steps → IsHeaderOf net.header square → Stands net.header kind (handed pool steps node) standing → IsAlarmed standing
+AlarmsName = (net : Network) (pool : List Item) (steps : List Kept) (node : ℕ) (kind : NodeKind) (standing : Standing) (square : SquareShares)
+    → IsRun net pool steps → IsHeaderOf net.header square → NodeMayStand net.header kind (handed pool steps node) standing → IsAlarmed standing
     → PoolNames pool square
 
 -- ---- lines without the letter c
@@ -44,7 +44,7 @@ number_plain : (front back : List ℕ) (n : ℕ) → has_c front ≡ false → h
 number_plain front back n one other = without_c (front ++ decimal n) back (without_c front (decimal n) one (decimal_plain n)) other
 
 -- the word of a state, but for a node that is alarmed
-word_plain : (standing : Standing) → IsAlarmed standing ⊎ (has_c (state_word (state_of standing)) ≡ false)
+word_plain : (standing : Standing) → IsAlarmed standing ⊎ (has_c (state_word (standing_state standing)) ≡ false)
 word_plain settled = inr refl
 word_plain (clashing left right) = inl (inr tt)
 word_plain waiting = inr refl
@@ -52,7 +52,7 @@ word_plain available = inr refl
 word_plain (rejecting claim) = inl (inl tt)
 
 -- so what stands behind it
-tail_plain : (net : NetParts) (node : ℕ) (kind : Kind) (standing : Standing) (tail : List ℕ) → HasTail net node kind standing tail
+tail_plain : (net : NetParts) (node : ℕ) (kind : NodeKind) (standing : Standing) (tail : List ℕ) → HasTail net node kind standing tail
     → IsAlarmed standing ⊎ (has_c tail ≡ false)
 tail_plain net node kind settled tail (cells, missed, is) =
     inr (ap has_c is ∙ without_c (codes " missing ") (decimal (length cells.list)) refl (decimal_plain (length cells.list)))
@@ -63,14 +63,14 @@ tail_plain net node kind available tail is = inr (ap has_c is)
 tail_plain net node kind (rejecting claim) tail is = inl (inl tt)
 
 -- so the line of a node
-line_plain : (net : NetParts) (node : ℕ) (line : List ℕ) (is : IsLine net node line) → IsAlarmed is.standing ⊎ (has_c line ≡ false)
+line_plain : (net : NetParts) (node : ℕ) (line : List ℕ) (is : IsNodeLine net node line) → IsAlarmed is.standing ⊎ (has_c line ≡ false)
 line_plain net node line is = elim (word_plain is.standing) [
   | inl alarmed ↦ inl alarmed
   | inr word ↦ elim (tail_plain net node is.stands.kind is.standing is.tail is.tail_is) [
     | inl alarmed ↦ inl alarmed
     | inr tail ↦
         let front : List ℕ = codes "node " ++ decimal node ++ codes " " in
-        let named : List ℕ = state_word (state_of is.standing) in
+        let named : List ℕ = state_word (standing_state is.standing) in
         inr (ap has_c is.line_is ∙ without_c (front ++ named ++ is.tail) (codes "\n")
         (without_c (front ++ named) is.tail (without_c front named (number_plain (codes "node ") (codes " ") node refl refl) word) tail) refl)
   ]
@@ -85,9 +85,9 @@ module _ (law : AlarmsName) (square : SquareShares) (net : NetParts) (run : IsRu
   alarm_names node standing stands alarmed = law (network_of net) net.pool net.steps node stands.kind standing square run own stands.stands alarmed
 
   -- a collision is named, or their lines don't have the letter
-  lines_plain : (n : ℕ) (lines : List ℕ) → AreLines net n lines → PoolNames net.pool square ⊎ (has_c lines ≡ false)
-  lines_plain _ _ AreLines.start = inr refl
-  lines_plain _ _ (AreLines.next n lines line are is) = elim (lines_plain n lines are) [
+  lines_plain : (n : ℕ) (lines : List ℕ) → AreNodeLines net n lines → PoolNames net.pool square ⊎ (has_c lines ≡ false)
+  lines_plain _ _ AreNodeLines.start = inr refl
+  lines_plain _ _ (AreNodeLines.next n lines line are is) = elim (lines_plain n lines are) [
     | inl names ↦ inl names
     | inr before ↦ elim (line_plain net n line is) [
       | inl alarmed ↦ inl (alarm_names n is.standing is.stands alarmed)
@@ -127,14 +127,14 @@ more_names items pool one square before sample claimed (inr (claim, at, names)) 
 -- ---- the run before an event
 
 -- the run before the step of an event
-run_before : (old new : NetParts) (step : Kept) → IsSame old new → new.steps ≡ old.steps ++ step ∷ [] → IsRun (network_of new) new.pool new.steps
+run_before : (old new : NetParts) (step : Kept) → IsSameNet old new → new.steps ≡ old.steps ++ step ∷ [] → IsRun (network_of new) new.pool new.steps
     → Before (network_of old) new.pool old.steps step
 run_before old new step same steps run =
-    let nets : network_of new ≡ network_of old = ap₂ (λ (h : Roots) (nodes : List Kind). record { header = h; nodes = nodes }) same.header same.nodes in
+    let nets : network_of new ≡ network_of old = ap₂ (λ (h : Roots) (nodes : List NodeKind). record { header = h; nodes = nodes }) same.header same.nodes in
     before_last (network_of old) new.pool new.steps (subst (λ (n : Network). IsRun n new.pool new.steps) nets run) old.steps step steps
 
 -- before an item was put
-run_put : (old new : NetParts) (one : Item) (place : ℕ) → IsSame old new → IsPooled old new one kept.Put place
+run_put : (old new : NetParts) (one : Item) (place : ℕ) → IsSameNet old new → IsPooled old new one kept.Put place
     → IsRun (network_of new) new.pool new.steps → IsRun (network_of old) old.pool old.steps
 run_put old new one place same pooled run =
     let before = run_before old new kept.Put same pooled.steps run in
@@ -142,9 +142,9 @@ run_put old new one place same pooled run =
     (pushed_parts before.0 old.pool before.1 one (sym before.2 ∙ pooled.pool)).0 before.3
 
 -- before a claim was published, by a node that rejected by it
-run_published : (old new : NetParts) (claim : ClaimParts) (by place : ℕ) → IsSame old new → IsPooled old new (item.Claim claim) (kept.Publish by) place
+run_published : (old new : NetParts) (claim : ClaimParts) (by place : ℕ) → IsSameNet old new → IsPooled old new (item.Claim claim) (kept.Publish by) place
     → IsRun (network_of new) new.pool new.steps
-    → IsRun (network_of old) old.pool old.steps × ((kind : Kind) × Stands old.header kind (handed old.pool old.steps by) (rejecting claim))
+    → IsRun (network_of old) old.pool old.steps × ((kind : NodeKind) × NodeMayStand old.header kind (handed old.pool old.steps by) (rejecting claim))
 run_published old new claim by place same pooled run =
     let before = run_before old new (kept.Publish by) same pooled.steps run in
     let parts = pushed_parts before.0 old.pool (item.Claim before.2) (item.Claim claim) (sym before.3 ∙ pooled.pool) in
@@ -152,8 +152,8 @@ run_published old new claim by place same pooled run =
       subst (λ (pool : List Item). IsRun (network_of old) pool old.steps) parts.0 before.4,
       (
         before.1,
-        subst (λ (c : ClaimParts). Stands old.header before.1 (handed old.pool old.steps by) (rejecting c)) own
-            (subst (λ (pool : List Item). Stands old.header before.1 (handed pool old.steps by) (rejecting before.2)) parts.0 before.5),
+        subst (λ (c : ClaimParts). NodeMayStand old.header before.1 (handed old.pool old.steps by) (rejecting c)) own
+            (subst (λ (pool : List Item). NodeMayStand old.header before.1 (handed pool old.steps by) (rejecting before.2)) parts.0 before.5),
       ),
     )
 
@@ -176,7 +176,7 @@ module _ (law : AlarmsName) (items : List Item) (first : NetParts) (square : Squ
 
   -- an event that happened, over what is known before it
   happened_on : (old new : NetParts) (one : Move) (given : NetEvent) (did : Stepped) (before : List ℕ) → event_of items one ≡ Some given
-      → HasHappened old given new did → IsSame old new → IsRun (network_of new) new.pool new.steps
+      → HasHappened old given new did → IsSameNet old new → IsRun (network_of new) new.pool new.steps
       → (IsRun (network_of old) old.pool old.steps → Went items first square old before) → Went items first square new (before ++ step_line did)
   happened_on old new one (event.Put given) (stepped.Pooled place) before is pooled same run earlier =
       let went = earlier (run_put old new given place same pooled run) in
@@ -253,7 +253,7 @@ module _ (law : AlarmsName) (items : List Item) (first : NetParts) (square : Squ
       goes_on old new one lines line goes run (λ was. went_on old moves lines before was)
 
   -- a collision is named, or what is told doesn't have the letter
-  told_plain : (moves : List Move) (w : List ℕ) → Tells items first moves w → PoolNames items square ⊎ (has_c w ≡ false)
+  told_plain : (moves : List Move) (w : List ℕ) → TellsPlay items first moves w → PoolNames items square ⊎ (has_c w ≡ false)
   told_plain moves w (net, front, back, goes, run, lines, is) =
       let went = went_on net moves front goes run in
       let headed : IsHeaderOf net.header square = subst (λ (h : Roots). IsHeaderOf h square) (sym went.header) own in
@@ -275,7 +275,7 @@ says_none w plain (inr clash) = c_within w (codes "clash") clash refl plain
 -- under the header of a square what is told says so only where an item of the list names a collision, by what is known of
 -- nodes that are alarmed
 pub tells_own : AlarmsName → (items : List Item) (header : Roots) (moves : List Move) (script w : List ℕ) (square : SquareShares)
-    → IsHeaderOf header square → Tells items (first_net header moves script) moves w → TellsOwn items square w
+    → IsHeaderOf header square → TellsPlay items (first_net header moves script) moves w → TellsOwn items square w
 tells_own law items header moves script w square own told says =
     elim (told_plain law items (first_net header moves script) square own refl moves w told) [
       | inl names ↦ names

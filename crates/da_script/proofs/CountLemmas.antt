@@ -13,8 +13,8 @@ use Rattle.da_net.specs.Nets.{is_too_many}
 use Rattle.da_script.specs.declared.reading.Counts.{Counts}
 use Rattle.da_script.specs.declared.reading.Move.{Move}
 use Rattle.da_script.specs.Scripts.{full_count, light_count, draws_of}
-use Rattle.da_script.specs.Plays.{item_in, light_of, pooling, put_bytes, is_refused, first_net}
-use Rattle.da_script.specs.Parts.{AreItems, AreCounts, is_wide, is_refused_by}
+use Rattle.da_script.specs.Plays.{frame_item, light_of, pooling, put_bytes, is_refused, first_net}
+use Rattle.da_script.specs.Parts.{AreFramesOf, AreCounts, is_wide, is_refused_by}
 use Rattle.da_script.proofs.DrawLemmas.{length-draws_at}
 
 -- what isn't too many is few
@@ -54,9 +54,9 @@ first_nodes header moves script =
     (length-map (draws_of script) (light_of header.k) ∙ length-draws_at (light_count script) (drop 4 script))
 
 -- there are as many items as frames of them
-pub item_count : (frames : List RawFrame) (items : List Item) → AreItems frames items → length frames ≡ length items
+pub item_count : (frames : List RawFrame) (items : List Item) → AreFramesOf frames items → length frames ≡ length items
 item_count frames items are =
-    sym (length-map frames (λ (f : RawFrame). item_in (raw_seen f))) ∙ ap (λ l. length l) are ∙ length-map items Some
+    sym (length-map frames (λ (f : RawFrame). frame_item (raw_seen f))) ∙ ap (λ l. length l) are ∙ length-map items Some
 
 -- what isn't refused has few of each
 pub few_of : (k : ℕ) (counts : Counts) (script : List ℕ) → is_refused_by k counts script ≡ false

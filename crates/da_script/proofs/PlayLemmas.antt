@@ -2,17 +2,17 @@
 use Rattle.std.proofs.Common.{◌≡◌, ◌∙◌, ℕ, List, [], ◌∷◌, ◌++◌, append-nil, append_assoc, refl, sym, ap, subst}
 use Rattle.std.proofs.Math.Seq.{append_snoc}
 use Rattle.da_net.specs.declared.items.Item.{Item}
-use Rattle.da_net.specs.Nets.{NetParts, IsSame}
+use Rattle.da_net.specs.Nets.{NetParts, IsSameNet}
 use Rattle.da_script.specs.declared.reading.Move.{Move}
 use Rattle.da_script.specs.Plays.{Goes, GoOn}
 use Rattle.da_script.specs.Parts.{Adds}
 
 -- ---- what no step changes
 
-pub same_self : (net : NetParts) → IsSame net net
+pub same_self : (net : NetParts) → IsSameNet net net
 same_self net = record { header = refl; nodes = refl; most_items = refl; most_steps = refl }
 
-pub same_on : (first old new : NetParts) → IsSame first old → IsSame old new → IsSame first new
+pub same_on : (first old new : NetParts) → IsSameNet first old → IsSameNet old new → IsSameNet first new
 same_on first old new one two = record {
   header = two.header ∙ one.header;
   nodes = two.nodes ∙ one.nodes;

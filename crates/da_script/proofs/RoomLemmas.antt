@@ -13,11 +13,11 @@ use Rattle.da_net.specs.declared.items.NetEvent.{NetEvent}
 use Rattle.da_net.specs.declared.items.NetEvent.TheVariants as event
 use Rattle.da_net.specs.declared.items.Stepped.{Stepped}
 use Rattle.da_net.specs.declared.items.Stepped.TheVariants as stepped
-use Rattle.da_net.specs.Nets.{NetParts, HasHappened, IsPooled, IsSame, is_full}
+use Rattle.da_net.specs.Nets.{NetParts, HasHappened, IsPooled, IsSameNet, is_full}
 use Rattle.da_net.specs.Nets as nets
 use Rattle.da_script.specs.declared.reading.Move.{Move}
 use Rattle.da_script.specs.declared.reading.Move.TheVariants as move
-use Rattle.da_script.specs.Plays.{is_pooling, pooling, event_of, first_net, Goes, done, refused, GoOn, start, next}
+use Rattle.da_script.specs.Plays.{is_pooling_move, pooling, event_of, first_net, Goes, done, refused, GoOn, start, next}
 
 -- what a number of items is put into the pool by an event
 abbrev put_by : Bool → ℕ
@@ -29,7 +29,7 @@ put_same None given e = absurd cc
 put_same (Some one) given e = let same : event.Put one ≡ given = cc in ap nets.is_pooling (sym same)
 
 -- an event of a network puts an item into the pool exactly where the event of the script does that it is of
-same_kind : (items : List Item) (one : Move) (given : NetEvent) → event_of items one ≡ Some given → nets.is_pooling given ≡ is_pooling one
+same_kind : (items : List Item) (one : Move) (given : NetEvent) → event_of items one ≡ Some given → nets.is_pooling given ≡ is_pooling_move one
 same_kind items (move.Put a) given e = put_same (slice_get items a) given e
 same_kind items (move.Hand a b) given e = let same : event.Hand a b ≡ given = cc in ap nets.is_pooling (sym same)
 same_kind items (move.Publish b) given e = let same : event.Publish b ≡ given = cc in ap nets.is_pooling (sym same)
@@ -66,7 +66,7 @@ record Spent (first net : NetParts) (moves : List Move) : Type 0 where
   pub kept : length net.steps ≤ length moves
 
 -- one event more counts where it puts an item
-pooling-one : (one : Move) → pooling (one ∷ []) ≡ put_by (is_pooling one)
+pooling-one : (one : Move) → pooling (one ∷ []) ≡ put_by (is_pooling_move one)
 pooling-one (move.Put a) = refl
 pooling-one (move.Hand a b) = refl
 pooling-one (move.Publish b) = refl
@@ -74,14 +74,14 @@ pooling-one (move.Publish b) = refl
 -- the events of two lists that put items
 pooling-append : (before later : List Move) → pooling (before ++ later) ≡ pooling before + pooling later
 pooling-append before later =
-    ap length (filter-append is_pooling before later) ∙ length-append (filter is_pooling before) (filter is_pooling later)
+    ap length (filter-append is_pooling_move before later) ∙ length-append (filter is_pooling_move before) (filter is_pooling_move later)
 
 -- an event that went by used no more than its own
 goes_spent : (items : List Item) (first old new : NetParts) (moves : List Move) (one : Move) (line : List ℕ)
     → Spent first old moves → Goes items old one new line → Spent first new (moves ++ one ∷ [])
 goes_spent items first old new moves one line spent (done given did is why happened same line_is) =
     let grows = subst (λ (b : Bool). Grows old new b) (same_kind items one given is) (happened_grows old new given did happened) in
-    let more : pooling (moves ++ one ∷ []) ≡ pooling moves + put_by (is_pooling one) =
+    let more : pooling (moves ++ one ∷ []) ≡ pooling moves + put_by (is_pooling_move one) =
     pooling-append moves (one ∷ []) ∙ ap (λ (n : ℕ). pooling moves + n) (pooling-one one) in
     let longer = length-append moves (one ∷ []) in
     record {

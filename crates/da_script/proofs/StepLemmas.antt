@@ -5,7 +5,7 @@ use Rattle.da_net.specs.declared.items.Item.TheVariants as item
 use Rattle.da_net.specs.declared.items.Kept.{Kept}
 use Rattle.da_net.specs.declared.items.Kept.TheVariants as kept
 use Rattle.axis_roots.specs.Claims.{ClaimParts}
-use Rattle.da_net.specs.Networks.{Kind, Network, rejecting, Stands, handed, IsRun, start, put, hand, publish}
+use Rattle.da_net.specs.Networks.{NodeKind, Network, rejecting, NodeMayStand, handed, IsRun, start, put, hand, publish}
 
 -- ---- lists with one element more
 
@@ -31,8 +31,8 @@ abbrev pub Before : Network → List Item → List Kept → Kept → Type 0
 Before net pool steps kept.Put = (old : List Item) × (one : Item) × (pool ≡ old ++ one ∷ []) × IsRun net old steps
 Before net pool steps (kept.Hand place node) = IsRun net pool steps
 Before net pool steps (kept.Publish node) =
-    (old : List Item) × (kind : Kind) × (claim : ClaimParts) × (pool ≡ old ++ item.Claim claim ∷ []) × IsRun net old steps
-    × Stands net.header kind (handed old steps node) (rejecting claim)
+    (old : List Item) × (kind : NodeKind) × (claim : ClaimParts) × (pool ≡ old ++ item.Claim claim ∷ []) × IsRun net old steps
+    × NodeMayStand net.header kind (handed old steps node) (rejecting claim)
 
 -- each run of a step more was such a run
 pub before_last : (net : Network) (pool : List Item) (all : List Kept) → IsRun net pool all → (steps : List Kept) (last : Kept) → all ≡ steps ++ last ∷ []
@@ -53,5 +53,5 @@ before_last net _ _ (publish old done node kind claim run is stands) steps last 
       claim,
       refl,
       subst (λ (s : List Kept). IsRun net old s) parts.0 run,
-      subst (λ (s : List Kept). Stands net.header kind (handed old s node) (rejecting claim)) parts.0 stands,
+      subst (λ (s : List Kept). NodeMayStand net.header kind (handed old s node) (rejecting claim)) parts.0 stands,
     )

@@ -6,7 +6,7 @@ use Rattle.namespace_id.specs.declared.cells.Axis.TheVariants.{Row, Col}
 use Rattle.da_status.specs.Notes.{axis_note}
 use Rattle.da_net.specs.declared.items.NodeState.{NodeState}
 use Rattle.da_net.specs.Networks.{Standing}
-use Rattle.da_net.specs.Nets.{state_of}
+use Rattle.da_net.specs.Nets.{standing_state}
 use Rattle.da_script.specs.Plays.{state_word}
 
 -- the word of an axis is short
@@ -16,9 +16,9 @@ axis_few Col = refl
 
 -- the text of a line, as it was put together
 pub node_text : (none front word all line : List ℕ) (node : ℕ) (tail : List ℕ) (one : NodeState) (standing : Standing) → none ≡ []
-    → front ≡ none ++ codes "node " ++ decimal node ++ codes " " → word ≡ front ++ state_word one → one ≡ state_of standing → all ≡ word ++ tail
+    → front ≡ none ++ codes "node " ++ decimal node ++ codes " " → word ≡ front ++ state_word one → one ≡ standing_state standing → all ≡ word ++ tail
     → line ≡ all ++ codes "\n"
-    → line ≡ codes "node " ++ decimal node ++ codes " " ++ state_word (state_of standing) ++ tail ++ codes "\n"
+    → line ≡ codes "node " ++ decimal node ++ codes " " ++ state_word (standing_state standing) ++ tail ++ codes "\n"
 node_text none front word all line node tail one standing none_is front_is word_is one_is all_is line_is =
     line_is
     ∙ ap (λ (l : List ℕ). l ++ codes "\n") (all_is ∙ ap (λ (l : List ℕ). l ++ tail)

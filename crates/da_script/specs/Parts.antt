@@ -11,18 +11,18 @@ use Rattle.da_wire.specs.Reading.{raw_seen}
 use Rattle.da_net.specs.declared.items.Item.{Item}
 use Rattle.da_net.specs.declared.items.NodeState.{NodeState}
 use Rattle.da_net.specs.Networks.{Standing}
-use Rattle.da_net.specs.Nets.{NetParts, HasStanding, state_of, is_too_many}
+use Rattle.da_net.specs.Nets.{NetParts, HasStanding, standing_state, is_too_many}
 use Rattle.da_script.specs.declared.reading.Counts.{Counts}
 use Rattle.da_script.specs.declared.reading.Move.{Move}
 use Rattle.da_script.specs.declared.reading.Move.TheVariants as move
 use Rattle.da_script.specs.declared.playing.PlayError.{PlayError}
 use Rattle.da_script.specs.declared.playing.PlayError.TheVariants.{BadScript, Nodes, NoMemory}
 use Rattle.da_script.specs.Scripts.{Draw, full_count, light_count, draws_at}
-use Rattle.da_script.specs.Plays.{item_in, pooling, put_bytes, is_refused, first_net, HasTail, Tells}
+use Rattle.da_script.specs.Plays.{frame_item, pooling, put_bytes, is_refused, first_net, HasTail, TellsPlay}
 
 -- these frames are these items
-abbrev pub AreItems : List RawFrame → List Item → Type 0
-AreItems frames items = map (λ frame. item_in (raw_seen frame)) frames ≡ map Some items
+abbrev pub AreFramesOf : List RawFrame → List Item → Type 0
+AreFramesOf frames items = map (λ frame. frame_item (raw_seen frame)) frames ≡ map Some items
 
 -- how many bytes the payload of each of these frames has
 abbrev pub payload_sizes : List RawFrame → List ℕ
@@ -51,12 +51,12 @@ is_refused_by k counts script = is_too_many (full_count script) (light_count scr
     || list_any (is_wide k) (draws_at (light_count script) (drop 4 script))
 
 -- the network of a script, or why there is none
-abbrev pub IsMade : Roots → List ℕ → List Move → List ℕ → Result NetParts PlayError → Type 0
-IsMade header sizes moves script (Ok net) =
+abbrev pub IsMadeNet : Roots → List ℕ → List Move → List ℕ → Result NetParts PlayError → Type 0
+IsMadeNet header sizes moves script (Ok net) =
     (is_refused header.k sizes moves script ≡ false) × (net ≡ first_net header moves script)
-IsMade header sizes moves script (Err (BadScript at)) = ⊥
-IsMade header sizes moves script (Err Nodes) = is_refused header.k sizes moves script ≡ true
-IsMade header sizes moves script (Err NoMemory) = ⊤
+IsMadeNet header sizes moves script (Err (BadScript at)) = ⊥
+IsMadeNet header sizes moves script (Err Nodes) = is_refused header.k sizes moves script ≡ true
+IsMadeNet header sizes moves script (Err NoMemory) = ⊤
 
 -- lines of which this holds were added to a text
 abbrev pub Adds : (List ℕ → Type 0) → List ℕ → List ℕ → Type 0
@@ -68,13 +68,13 @@ claim_tail claim = codes " " ++ axis_note claim.axis ++ decimal claim.index
 
 -- what the line of a node has behind its state was added to it
 abbrev pub IsTailed : NetParts → ℕ → NodeState → List ℕ → List ℕ → Type 0
-IsTailed net node one old new = (standing : Standing) (stands : HasStanding net node standing) → one ≡ state_of standing
+IsTailed net node one old new = (standing : Standing) (stands : HasStanding net node standing) → one ≡ standing_state standing
     → Adds (HasTail net node stands.kind standing) old new
 
 -- what a script that is in its form comes to over items of these sizes
 abbrev pub IsPlayed : Roots → List ℕ → List Item → List Move → List ℕ → Result (Vec ℕ Global) PlayError → Type 0
 IsPlayed header sizes items moves script (Ok text) =
-    (is_refused header.k sizes moves script ≡ false) × Tells items (first_net header moves script) moves text.items
+    (is_refused header.k sizes moves script ≡ false) × TellsPlay items (first_net header moves script) moves text.items
 IsPlayed header sizes items moves script (Err (BadScript at)) = ⊥
 IsPlayed header sizes items moves script (Err Nodes) = is_refused header.k sizes moves script ≡ true
 IsPlayed header sizes items moves script (Err NoMemory) = ⊤

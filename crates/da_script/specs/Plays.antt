@@ -8,7 +8,7 @@ use Rattle.data_header.specs.Headers.{Roots}
 use Rattle.sampling.specs.Draws.{draw_limit, drawn_cells}
 use Rattle.da_status.specs.Notes.{axis_note}
 use Rattle.da_wire.specs.Reading.{Raw}
-use Rattle.da_wire.specs.Frames.{message_in, claim_in}
+use Rattle.da_wire.specs.Frames.{raw_message, raw_claim}
 use Rattle.da_net.specs.declared.items.Item.{Item}
 use Rattle.da_net.specs.declared.items.Item.TheVariants.{Message, Claim}
 use Rattle.da_net.specs.declared.items.NetEvent.{NetEvent}
@@ -19,8 +19,8 @@ use Rattle.da_net.specs.declared.items.Stepped.{Stepped}
 use Rattle.da_net.specs.declared.items.Stepped.TheVariants as stepped
 use Rattle.da_net.specs.declared.items.StepRefusal.{StepRefusal}
 use Rattle.da_net.specs.declared.items.StepRefusal.TheVariants as refusal
-use Rattle.da_net.specs.Networks.{Kind, light, Standing, settled, clashing, waiting, available, rejecting, handed, IsRun}
-use Rattle.da_net.specs.Nets.{NetParts, network_of, fresh, is_too_many, HasStanding, state_of, AreMissed, why_not, HasHappened, IsSame}
+use Rattle.da_net.specs.Networks.{NodeKind, light, Standing, settled, clashing, waiting, available, rejecting, handed, IsRun}
+use Rattle.da_net.specs.Nets.{NetParts, network_of, fresh, is_too_many, HasStanding, standing_state, AreMissed, why_not, HasHappened, IsSameNet}
 use Rattle.da_script.specs.declared.reading.Move.{Move}
 use Rattle.da_script.specs.declared.reading.Move.TheVariants as move
 use Rattle.da_script.specs.declared.playing.PlayError.{PlayError}
@@ -30,17 +30,17 @@ use Rattle.da_script.specs.Scripts.{Draw, full_count, draws_of, moves_of, bad_sc
 -- ---- items
 
 -- the item that a frame is: a sample of the grammar, or a fraud claim of it; any other frame is none
-abbrev pub item_in : Raw → Option Item
-item_in frame = option_map_or (λ m. Some (Message m)) (message_in frame) (option_map Claim (claim_in frame))
+abbrev pub frame_item : Raw → Option Item
+frame_item frame = option_map_or (λ m. Some (Message m)) (raw_message frame) (option_map Claim (raw_claim frame))
 
 -- the items among frames, in their order
 unfoldable pub items_in : List Raw → List Item
 items_in [] = []
-items_in (frame ∷ later) = option_map_or (λ one. one ∷ items_in later) (item_in frame) (items_in later)
+items_in (frame ∷ later) = option_map_or (λ one. one ∷ items_in later) (frame_item frame) (items_in later)
 
 -- the frames that are items, in their order
 abbrev pub item_frames : List Raw → List Raw
-item_frames frames = filter (λ frame. is_some (item_in frame)) frames
+item_frames frames = filter (λ frame. is_some (frame_item frame)) frames
 
 -- how many bytes the payload of each item among frames has
 abbrev pub item_sizes : List Raw → List ℕ
@@ -49,18 +49,18 @@ item_sizes frames = map (λ frame. length frame.payload) (item_frames frames)
 -- ---- the network
 
 -- a light node that planned what a key draws
-abbrev pub light_of : ℕ → Draw → Kind
+abbrev pub light_of : ℕ → Draw → NodeKind
 light_of k draw = light (drawn_cells draw.key k draw.count)
 
 -- whether an event of a script puts an item into the pool
-abbrev pub is_pooling : Move → Bool
-is_pooling (move.Put a) = true
-is_pooling (move.Hand a b) = false
-is_pooling (move.Publish b) = true
+abbrev pub is_pooling_move : Move → Bool
+is_pooling_move (move.Put a) = true
+is_pooling_move (move.Hand a b) = false
+is_pooling_move (move.Publish b) = true
 
 -- how many items the events of a script may put into the pool
 abbrev pub pooling : List Move → ℕ
-pooling moves = length (filter is_pooling moves)
+pooling moves = length (filter is_pooling_move moves)
 
 -- how many bytes of items an event of a script puts into the pool, by the sizes of the items
 abbrev pub put_size : List ℕ → Move → ℕ
@@ -120,7 +120,7 @@ refused_line why = codes "refused " ++ decimal (refusal_number why) ++ codes "\n
 -- an event over a network: the network afterwards, and its line; it happens, or is refused and changes nothing
 pub data Goes (items : List Item) (old : NetParts) (one : Move) (new : NetParts) (line : List ℕ) : Type 0 where
   done : (given : NetEvent) (did : Stepped) → event_of items one ≡ Some given → why_not old given ≡ None
-      → HasHappened old given new did → IsSame old new → line ≡ step_line did → Goes items old one new line
+      → HasHappened old given new did → IsSameNet old new → line ≡ step_line did → Goes items old one new line
   refused : (given : NetEvent) (why : StepRefusal) → event_of items one ≡ Some given → why_not old given ≡ Some why
       → new ≡ old → line ≡ refused_line why → Goes items old one new line
 
@@ -134,7 +134,7 @@ pub data GoOn (items : List Item) (first : NetParts) : List Move → NetParts �
 -- ---- nodes
 
 -- what the line of a node has behind its state: the axis of its claim, or how many cells it misses
-abbrev pub HasTail : NetParts → ℕ → Kind → Standing → List ℕ → Type 0
+abbrev pub HasTail : NetParts → ℕ → NodeKind → Standing → List ℕ → Type 0
 HasTail net node kind settled tail = (cells : CellList)
     × AreMissed net.header kind (handed net.pool net.steps node) cells × (tail ≡ codes " missing " ++ decimal (length cells.list))
 HasTail net node kind (clashing left right) tail = tail ≡ []
@@ -144,32 +144,32 @@ HasTail net node kind available tail = tail ≡ []
 HasTail net node kind (rejecting claim) tail = tail ≡ codes " " ++ axis_note claim.axis ++ decimal claim.index
 
 -- the line of a node
-pub record IsLine (net : NetParts) (node : ℕ) (line : List ℕ) : Type 0 where
+pub record IsNodeLine (net : NetParts) (node : ℕ) (line : List ℕ) : Type 0 where
   pub standing : Standing
   pub stands : HasStanding net node standing
   pub tail : List ℕ
   pub tail_is : HasTail net node stands.kind standing tail
-  pub line_is : line ≡ codes "node " ++ decimal node ++ codes " " ++ state_word (state_of standing) ++ tail ++ codes "\n"
+  pub line_is : line ≡ codes "node " ++ decimal node ++ codes " " ++ state_word (standing_state standing) ++ tail ++ codes "\n"
 
 -- the lines of the first nodes
-pub data AreLines (net : NetParts) : ℕ → List ℕ → Type 0 where
-  start : AreLines net 0 []
-  next : (n : ℕ) (lines line : List ℕ) → AreLines net n lines → IsLine net n line → AreLines net (suc n) (lines ++ line)
+pub data AreNodeLines (net : NetParts) : ℕ → List ℕ → Type 0 where
+  start : AreNodeLines net 0 []
+  next : (n : ℕ) (lines line : List ℕ) → AreNodeLines net n lines → IsNodeLine net n line → AreNodeLines net (suc n) (lines ++ line)
 
 -- ---- scripts
 
 -- what is written of events over a network in which nothing had happened: a line for each event, and then a line for each
 -- node of the network that they left, whose pool and steps are those of one run
-abbrev pub Tells : List Item → NetParts → List Move → List ℕ → Type 0
-Tells items first moves w = (net : NetParts) × (front back : List ℕ) × GoOn items first moves net front
-    × IsRun (network_of net) net.pool net.steps × AreLines net (length net.nodes) back × (w ≡ front ++ back)
+abbrev pub TellsPlay : List Item → NetParts → List Move → List ℕ → Type 0
+TellsPlay items first moves w = (net : NetParts) × (front back : List ℕ) × GoOn items first moves net front
+    × IsRun (network_of net) net.pool net.steps × AreNodeLines net (length net.nodes) back × (w ≡ front ++ back)
 
 -- what a script comes to over a list of frames: a place at which it isn't one, a refusal, or its lines
 abbrev pub Plays : Roots → List Raw → List ℕ → Result (Vec ℕ Global) PlayError → Type 0
 Plays header frames script (Ok text) =
     (bad_script (length (items_in frames)) script ≡ None)
     × (is_refused header.k (item_sizes frames) (moves_of (length (items_in frames)) script) script ≡ false)
-    × Tells (items_in frames) (first_net header (moves_of (length (items_in frames)) script) script)
+    × TellsPlay (items_in frames) (first_net header (moves_of (length (items_in frames)) script) script)
     (moves_of (length (items_in frames)) script) text.items
 Plays header frames script (Err (BadScript at)) = bad_script (length (items_in frames)) script ≡ Some at
 Plays header frames script (Err Nodes) =

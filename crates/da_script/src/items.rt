@@ -4,8 +4,8 @@ ghost use Rattle.std.specs.Prelude.{◌≡◌, ◌<◌, List, length, slice_get,
 ghost use Rattle.da_net.specs.declared.items.Item.{Item as Put};
 ghost use Rattle.da_wire.specs.Reading.{raw_seen};
 ghost use Rattle.da_wire.specs.Frames.{frames_of};
-ghost use Rattle.da_script.specs.Plays.{item_in, items_in, item_sizes, event_of};
-ghost use Rattle.da_script.specs.Parts.{AreItems, IsPuttable, payload_sizes};
+ghost use Rattle.da_script.specs.Plays.{frame_item, items_in, item_sizes, event_of};
+ghost use Rattle.da_script.specs.Parts.{AreFramesOf, IsPuttable, payload_sizes};
 
 use crate::reading::Move;
 use da_net::{Item, NetEvent};
@@ -16,7 +16,7 @@ use std::alloc::Global;
 
 /// The item that a frame is; none where it is neither a sample nor a claim.
 fn item_in(alloc: Global, frame: RawFrame<'_>) -> Result<Option<Item>, NoMemory>
-    ensures { IfOk result (λ found. found ≡ item_in (raw_seen frame.entry)) }
+    ensures { IfOk result (λ found. found ≡ frame_item (raw_seen frame.entry)) }
 {
     match frame.kind {
         b'M' => Ok(message(frame.payload).map(Item::Message)),
@@ -28,7 +28,7 @@ fn item_in(alloc: Global, frame: RawFrame<'_>) -> Result<Option<Item>, NoMemory>
 /// The frames that are items, in their order.
 pub(crate) fn items_in<'a>(alloc: Global, messages: &'a [u8]) -> Result<Vec<RawFrame<'a>>, NoMemory>
     ensures items { IfOk result (λ frames.
-        AreItems frames.items (items_in (frames_of messages.now))) }
+        AreFramesOf frames.items (items_in (frames_of messages.now))) }
     ensures sizes { IfOk result (λ frames.
         payload_sizes frames.items ≡ item_sizes (frames_of messages.now)) }
 {
@@ -47,9 +47,9 @@ pub(crate) fn items_in<'a>(alloc: Global, messages: &'a [u8]) -> Result<Vec<RawF
 
 /// The item that a frame is which is one.
 fn item_at(alloc: Global, frames: &[RawFrame<'_>], place: u32) -> Result<Item, NoMemory>
-    requires items { (items : List Put) × AreItems frames.now items }
+    requires items { (items : List Put) × AreFramesOf frames.now items }
     requires place { place < length frames.now }
-    ensures { (items : List Put) → AreItems frames.now items →
+    ensures { (items : List Put) → AreFramesOf frames.now items →
         IfOk result (λ one. slice_get items place ≡ Some one) }
 {
     match item_in(alloc, frames[place as usize])? {
@@ -64,9 +64,9 @@ pub(crate) fn event_of(
     frames: &[RawFrame<'_>],
     one: Move,
 ) -> Result<NetEvent, NoMemory>
-    requires items { (items : List Put) × AreItems frames.now items }
+    requires items { (items : List Put) × AreFramesOf frames.now items }
     requires put { IsPuttable (length frames.now) one }
-    ensures { (items : List Put) → AreItems frames.now items →
+    ensures { (items : List Put) → AreFramesOf frames.now items →
         IfOk result (λ given. event_of items one ≡ Some given) }
 {
     match one {

@@ -11,7 +11,7 @@ ghost use Rattle.da_net.specs.declared.items.NetEvent.{NetEvent as Given};
 ghost use Rattle.da_net.specs.Nets.{NetParts, is_full, is_too_many};
 ghost use Rattle.da_script.specs.declared.reading.Move.{Move as Played};
 ghost use Rattle.da_script.specs.Scripts.{full_count, draws_of};
-ghost use Rattle.da_script.specs.Plays.{pooling, put_bytes, is_refused, event_of, first_net, GoOn, Tells};
+ghost use Rattle.da_script.specs.Plays.{pooling, put_bytes, is_refused, event_of, first_net, GoOn, TellsPlay};
 ghost use Rattle.da_script.specs.Alarms.{TellsOwn};
 
 use da_net::rejection_laws;
@@ -35,7 +35,7 @@ pub fn script_laws()
 pub fn alarm_laws()
     ensures own { (items : List Put) (header : Roots) (moves : List Played) (script w : List ℕ)
         (square : SquareShares) → IsHeaderOf header square →
-        Tells items (first_net header moves script) moves w → TellsOwn items square w }
+        TellsPlay items (first_net header moves script) moves w → TellsOwn items square w }
 {
     rejection_laws();
 }

@@ -2,7 +2,7 @@
 
 ghost use Rattle.std.specs.Prelude.{◌≡◌, ◌+◌, ◌<◌, ◌≤◌, ◌++◌, length, None};
 ghost use Rattle.da_net.specs.Nets.{HasState, alarm_at};
-ghost use Rattle.da_script.specs.Plays.{state_word, step_line, refusal_number, refused_line, IsLine};
+ghost use Rattle.da_script.specs.Plays.{state_word, step_line, refusal_number, refused_line, IsNodeLine};
 ghost use Rattle.da_script.specs.Parts.{claim_tail, IsTailed};
 
 use axis_roots::FraudClaim;
@@ -110,7 +110,7 @@ fn put_tail<F: Picker>(
 pub(crate) fn node_line<F: Picker>(net: &Net<F>, node: u16, room: &mut CellRoom) -> Line
     requires node { node < length net.now.nodes }
     requires room { room.old.k ≡ net.now.header.k }
-    ensures line { IsLine net.now node result }
+    ensures line { IsNodeLine net.now node result }
     ensures room { room.new.k ≡ room.old.k }
 {
     let state = net.state(node);

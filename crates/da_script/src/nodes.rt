@@ -6,7 +6,7 @@ ghost use Rattle.std.specs.List.{AllByRecursion, list_any};
 ghost use Rattle.namespace_id.specs.Cells.{is_width};
 ghost use Rattle.sampling.specs.Draws.{draw_limit, drawn_cells};
 ghost use Rattle.da_net.specs.Networks.{light};
-ghost use Rattle.da_net.specs.Nodes.{IsFresh};
+ghost use Rattle.da_net.specs.Nodes.{IsFreshNode};
 ghost use Rattle.da_script.specs.Scripts.{draws_at};
 ghost use Rattle.da_script.specs.Plays.{light_of};
 ghost use Rattle.da_script.specs.Parts.{is_wide};
@@ -100,7 +100,7 @@ fn light<F: Listed>(
     count: u32,
 ) -> Result<LightNode<F>, NoMemory>
     requires { count ≤ draw_limit header.now.k }
-    ensures fresh { IfOk result (IsFresh F.picks header.now) }
+    ensures fresh { IfOk result (IsFreshNode F.picks header.now) }
     ensures wanted { IfOk result (λ n. n.wanted ≡ drawn_cells key.now header.now.k count) }
 {
     let cells = match cells(alloc, key, header.k, count) {
@@ -123,7 +123,7 @@ pub(crate) fn lights<F: Listed>(
     requires size { 34 * count ≤ length draws.now }
     requires few { list_any (is_wide header.now.k) (draws_at count draws.now) ≡ false }
     ensures fresh { IfOk result (λ lights.
-        AllByRecursion (IsFresh F.picks header.now) lights.items) }
+        AllByRecursion (IsFreshNode F.picks header.now) lights.items) }
     ensures kinds { IfOk result (λ lights. map (λ n. light n.wanted) lights.items ≡
         map (light_of header.now.k) (draws_at count draws.now)) }
 {

@@ -3,14 +3,14 @@
 ghost use Rattle.std.specs.Prelude.{◌≡◌, ℕ, ◌≤◌, ◌++◌, List, length, true, IsTrue, IfOk, OnOk, Some};
 ghost use Rattle.namespace_id.specs.Cells.{is_width};
 ghost use Rattle.da_net.specs.declared.items.Item.{Item as Put};
-ghost use Rattle.da_net.specs.Nets.{IsSame, is_too_many};
+ghost use Rattle.da_net.specs.Nets.{IsSameNet, is_too_many};
 ghost use Rattle.da_wire.specs.Frames.{frames_of};
 ghost use Rattle.da_wire.specs.Walks.{walk_from};
 ghost use Rattle.da_script.specs.declared.playing.PlayError.TheVariants as error;
 ghost use Rattle.da_script.specs.declared.reading.Move.{Move as Played};
 ghost use Rattle.da_script.specs.Scripts.{front_size, move_at, moves_of};
-ghost use Rattle.da_script.specs.Plays.{event_of, Goes, GoOn, AreLines, Tells, Plays};
-ghost use Rattle.da_script.specs.Parts.{AreItems, payload_sizes, AreCounts, is_refused_by, IsMade, Adds, IsPlayed};
+ghost use Rattle.da_script.specs.Plays.{event_of, Goes, GoOn, AreNodeLines, TellsPlay, Plays};
+ghost use Rattle.da_script.specs.Parts.{AreFramesOf, payload_sizes, AreCounts, is_refused_by, IsMadeNet, Adds, IsPlayed};
 
 use crate::items::{event_of, items_in};
 use crate::lines::{node_line, refused_line, step_line};
@@ -65,7 +65,7 @@ fn put_line(text: &mut Vec<u8>, line: &Line) -> Result<(), NoMemory>
 fn step<F: Picker>(net: &mut Net<F>, event: NetEvent) -> Line
     ensures goes { (items : List Put) (one : Played) → event_of items one ≡ Some event →
         Goes items net.old one net.new result }
-    ensures kept { IsSame net.old net.new }
+    ensures kept { IsSameNet net.old net.new }
 {
     match net.step(event) {
         Ok(stepped) => step_line(stepped),
@@ -81,11 +81,11 @@ fn go_on<F: Picker>(
     moves: &[u8],
     text: &mut Vec<u8>,
 ) -> Result<(), NoMemory>
-    requires { (items : List Put) × AreItems frames.now items }
-    ensures goes { OnOk result ((items : List Put) → AreItems frames.now items →
+    requires { (items : List Put) × AreFramesOf frames.now items }
+    ensures goes { OnOk result ((items : List Put) → AreFramesOf frames.now items →
         Adds (GoOn items net.old (walk_from (move_at (length frames.now)) 0 moves.now) net.new)
         text.old.items text.new.items) }
-    ensures kept { OnOk result (IsSame net.old net.new) }
+    ensures kept { OnOk result (IsSameNet net.old net.new) }
 {
     let mut rest = moves;
     while let Some((one, after)) = next_move(frames.len(), rest) {
@@ -105,7 +105,7 @@ fn put_nodes<F: Picker>(
 ) -> Result<(), NoMemory>
     requires nodes { count ≤ length net.now.nodes }
     requires room { room.old.k ≡ net.now.header.k }
-    ensures { OnOk result (Adds (AreLines net.now count) text.old.items text.new.items) }
+    ensures { OnOk result (Adds (AreNodeLines net.now count) text.old.items text.new.items) }
 {
     for node in 0..count {
         put_line(text, &node_line(net, node, room))?;
@@ -124,9 +124,9 @@ fn tell<F: Picker>(
 ) -> Result<Vec<u8>, NoMemory>
     requires nodes { count ≡ length net.nodes }
     requires room { room.k ≡ net.header.k }
-    requires items { (items : List Put) × AreItems frames.now items }
-    ensures { IfOk result (λ text. (items : List Put) → AreItems frames.now items →
-        Tells items net (walk_from (move_at (length frames.now)) 0 moves.now) text.items) }
+    requires items { (items : List Put) × AreFramesOf frames.now items }
+    ensures { IfOk result (λ text. (items : List Put) → AreFramesOf frames.now items →
+        TellsPlay items net (walk_from (move_at (length frames.now)) 0 moves.now) text.items) }
 {
     let mut net = net;
     let mut room = room;
@@ -174,7 +174,7 @@ fn make<F: Listed>(
 ) -> Result<Net<F>, PlayError>
     requires size { front_size script.now ≤ length script.now }
     ensures { (sizes : List ℕ) (moves : List Played) → AreCounts sizes counts.now moves →
-        IsMade header sizes moves script.now result }
+        IsMadeNet header sizes moves script.now result }
 {
     if is_refused(width(&header), script, counts) {
         return Err(PlayError::Nodes);
@@ -196,9 +196,9 @@ fn play_moves<F: Listed>(
     frames: &[RawFrame<'_>],
     script: &[u8],
 ) -> Result<Vec<u8>, PlayError>
-    requires items { (items : List Put) × AreItems frames.now items }
+    requires items { (items : List Put) × AreFramesOf frames.now items }
     requires size { front_size script.now ≤ length script.now }
-    ensures { (items : List Put) → AreItems frames.now items →
+    ensures { (items : List Put) → AreFramesOf frames.now items →
         IsPlayed header (payload_sizes frames.now) items (moves_of (length items) script.now)
         script.now result }
 {

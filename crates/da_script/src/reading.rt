@@ -7,7 +7,7 @@ ghost use Rattle.std.specs.Int.{w16, w32, from_be_bytes};
 ghost use Rattle.std.specs.Option.{option_map};
 ghost use Rattle.da_wire.specs.Walks.{walk_from};
 ghost use Rattle.da_script.specs.Scripts.{full_count, light_count, front_size, move_of, move_at, bad_script};
-ghost use Rattle.da_script.specs.Plays.{is_pooling, pooling, put_size, put_bytes};
+ghost use Rattle.da_script.specs.Plays.{is_pooling_move, pooling, put_size, put_bytes};
 ghost use Rattle.da_script.specs.Parts.{IsPuttable, payload_sizes};
 
 use da_wire::RawFrame;
@@ -186,7 +186,7 @@ pub(crate) fn bad_script(items: usize, script: &[u8]) -> Option<u64>
 
 /// Whether an event puts an item into the pool.
 fn is_pooling(one: Move) -> bool
-    ensures { result ≡ is_pooling one }
+    ensures { result ≡ is_pooling_move one }
 {
     match one {
         Move::Put(_) | Move::Publish(_) => true,

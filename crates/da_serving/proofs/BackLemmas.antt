@@ -11,9 +11,9 @@ use Rattle.namespace_id.specs.Shares.{name_in, AreShares}
 use Rattle.share_split.specs.Blobs.{NamedBytes, blob_shares_of}
 use Rattle.share_split.specs.Units.{unit_shares_of}
 use Rattle.share_split.specs.Joined.{padding_share, IsBlob, AreBlobs}
-use Rattle.share_split.specs.Walks.{blobs_of}
+use Rattle.share_split.specs.Walks.{blobs_joined}
 use Rattle.square_layout.specs.Blocks.{BlockParts}
-use Rattle.square_layout.specs.Layout.{share_count_of, start_after, placed, placed_behind, in_order, compact_part, compact_end, laid, width_for, square_of}
+use Rattle.square_layout.specs.Layout.{share_count_of, start_after, placed, placed_behind, in_order, compact_part, compact_end, laid, width_for, block_square}
 use Rattle.square_layout.specs.ShareNames.{AreNamed, BlobSharesAreNamed, UnitSharesAreNamed, PaddingIsNamed}
 use Rattle.square_layout.proofs.BlobOrderLemmas.{All-in_order}
 use Rattle.square_serve.specs.Shares.{is_named}
@@ -143,17 +143,17 @@ placed_others of_blobs of_padding name end (one ∷ blobs) other size are names 
 
 -- the blobs of a block are read back from its square
 pub blobs_back : BlobSharesAreNamed → UnitSharesAreNamed → PaddingIsNamed
-    → ((shares : List Share) (blobs : List NamedBytes) → AreShares shares → (blobs_of shares ≡ Ok blobs) ↔ AreBlobs shares blobs)
+    → ((shares : List Share) (blobs : List NamedBytes) → AreShares shares → (blobs_joined shares ≡ Ok blobs) ↔ AreBlobs shares blobs)
     → (block : BlockParts) → AllByRecursion IsBlob (in_order block.blobs)
     → AllByRecursion (λ blob. is_blob_namespace blob.namespace.0 ≡ true) block.blobs
-    → AreBlobs (drop (compact_end block) (square_of block).shares) (in_order block.blobs) → AreShares (square_of block).shares
-    → drop (compact_end block) (square_of block).shares
+    → AreBlobs (drop (compact_end block) (block_square block).shares) (in_order block.blobs) → AreShares (block_square block).shares
+    → drop (compact_end block) (block_square block).shares
     ≡ placed primary_reserved_padding (compact_end block) (in_order block.blobs)
     ++ replicate (width_for block * width_for block - length (laid block)) (padding_share tail_padding)
-    → (square_of block).shares ≡ compact_part block ++ drop (compact_end block) (square_of block).shares
-    → blobs_of (behind_compact (square_of block).shares) ≡ Ok (in_order block.blobs)
+    → (block_square block).shares ≡ compact_part block ++ drop (compact_end block) (block_square block).shares
+    → blobs_joined (behind_compact (block_square block).shares) ≡ Ok (in_order block.blobs)
 blobs_back of_blobs of_units of_padding join block are names behind shares back parts =
-    let rest : List Share = drop (compact_end block) (square_of block).shares in
+    let rest : List Share = drop (compact_end block) (block_square block).shares in
     let tail : List Share = replicate (width_for block * width_for block - length (laid block)) (padding_share tail_padding) in
     let placed_part : List Share = placed primary_reserved_padding (compact_end block) (in_order block.blobs) in
     let front : AreCompactShares (compact_part block) =
@@ -166,7 +166,7 @@ blobs_back of_blobs of_units of_padding join block are names behind shares back 
     (All-in_order (λ (blob : NamedBytes). is_blob_namespace blob.namespace.0 ≡ true) block.blobs names))
     (others tail_padding tail tail_other
     (of_padding (width_for block * width_for block - length (laid block)) tail_padding refl))) in
-    let whole : behind_compact (square_of block).shares ≡ rest =
+    let whole : behind_compact (block_square block).shares ≡ rest =
     ap behind_compact parts ∙ behind_front (compact_part block) rest front ∙ behind_others rest other in
-    ap blobs_of whole
-    ∙ (join rest (in_order block.blobs) (each_drop _ (compact_end block) (square_of block).shares shares)).1 behind
+    ap blobs_joined whole
+    ∙ (join rest (in_order block.blobs) (each_drop _ (compact_end block) (block_square block).shares shares)).1 behind

@@ -16,7 +16,7 @@ use Rattle.namespace_id.proofs.WidthLemmas.{is_width-le}
 use Rattle.share_split.specs.declared.joining.JoinError.{JoinError}
 use Rattle.share_split.specs.Blobs.{NamedBytes, signer_size, version_of, signer_bytes, count_from, share_count}
 use Rattle.share_split.specs.Joined.{Piece, padding, blob, piece_shares, piece_blobs, IsPiece, AreBlobs}
-use Rattle.share_split.specs.Walks.{blobs_of}
+use Rattle.share_split.specs.Walks.{blobs_joined}
 use Rattle.share_split.proofs.Writing.BlobLaws.{length-blob_shares_of}
 use Rattle.square_layout.specs.Blocks.{SquareShares, IsSquare}
 use Rattle.axis_roots.specs.declared.answers.Found.{Found}
@@ -33,10 +33,10 @@ use Rattle.frame_payloads.specs.kinds.Names.{is_long_found, is_long_entry, is_lo
 use Rattle.da_status.specs.declared.status.Status.{Status}
 use Rattle.da_status.specs.declared.status.Status.TheVariants.{BadRequest}
 use Rattle.da_status.specs.declared.status.Asked.TheVariants.{Shares}
-use Rattle.da_status.specs.Statuses.{kind_of}
+use Rattle.da_status.specs.Statuses.{status_kind}
 use Rattle.da_status.specs.Outcome.{Relation, Refuses}
 use Rattle.da_files.specs.Frames.{Writes}
-use Rattle.da_serving.specs.Blobs.{is_compact, behind_compact, answer_shares, shares_of, share_kinds, shares_in, shares_file, block_with, Joins, BlobsOf}
+use Rattle.da_serving.specs.Blobs.{is_compact, behind_compact, answer_shares, frame_shares, share_kinds, shares_frame, shares_file, block_with, JoinsShares, BlobsOf}
 use Rattle.da_status.proofs.EndLemmas.{IsAnswer, status_answers}
 use Rattle.da_files.proofs.FormLemmas.{over_each}
 
@@ -48,19 +48,19 @@ joins_by read w status =
     MatchResult read (λ blobs. Writes (Block (block_with blobs)) w status) (λ why. Refuses (BadRequest (Shares why)) w status)
 
 -- what is answered is an answer, by what shares are read as
-by_blobs : (read : Result (List NamedBytes) JoinError) (w : List ℕ) (status : Status) → joins_by read w status → IsAnswer (kind_of status)
+by_blobs : (read : Result (List NamedBytes) JoinError) (w : List ℕ) (status : Status) → joins_by read w status → IsAnswer (status_kind status)
 by_blobs (Ok blobs) w status h = status_answers status _ h.1 tt
 by_blobs (Err why) w status h = status_answers status _ h.1 tt
 
 -- what blobs answers to its files is an answer
-pub blobs_answers : (files : List (List ℕ)) (w : List ℕ) (status : Status) → BlobsOf files w status → IsAnswer (kind_of status)
+pub blobs_answers : (files : List (List ℕ)) (w : List ℕ) (status : Status) → BlobsOf files w status → IsAnswer (status_kind status)
 blobs_answers files w status h =
-    over_each (λ frame. Joins (shares_of frame)) (shares_in (shares_file files)) w status (IsAnswer (kind_of status))
-    (λ frame. by_blobs (blobs_of (shares_of frame)) w status) h
+    over_each (λ frame. JoinsShares (frame_shares frame)) (shares_frame (shares_file files)) w status (IsAnswer (status_kind status))
+    (λ frame. by_blobs (blobs_joined (frame_shares frame)) w status) h
 
 -- the frame of the blobs that shares are is the answer to the shares
-pub joins_blobs : (shares : List Share) (blobs : List NamedBytes) (frame : Frame) → blobs_of shares ≡ Ok blobs → frame ≡ Block (block_with blobs)
-    → (w : List ℕ) (status : Status) → Writes frame w status → Joins shares w status
+pub joins_blobs : (shares : List Share) (blobs : List NamedBytes) (frame : Frame) → blobs_joined shares ≡ Ok blobs → frame ≡ Block (block_with blobs)
+    → (w : List ℕ) (status : Status) → Writes frame w status → JoinsShares shares w status
 joins_blobs shares blobs frame read is w status gives =
     subst (λ (r : Result (List NamedBytes) JoinError). joins_by r w status) (sym read) (ap spelling (sym is) ∙ gives.0, gives.1)
 

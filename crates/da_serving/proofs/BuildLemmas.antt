@@ -4,7 +4,7 @@ use Rattle.std.specs.Prelude.{MatchOption}
 use Rattle.std.specs.declared.option.Option.{Option}
 use Rattle.std.specs.Option.{option_or}
 use Rattle.square_layout.specs.Blocks.{BlockParts, SquareShares}
-use Rattle.square_layout.specs.Layout.{square_of}
+use Rattle.square_layout.specs.Layout.{block_square}
 use Rattle.square_layout.specs.Refusals.{layout_refusal}
 use Rattle.tx_list.specs.declared.refusals.ListError.{ListError}
 use Rattle.tx_list.specs.declared.refusals.ListError.TheVariants.{NoMemory}
@@ -12,13 +12,13 @@ use Rattle.tx_list.specs.Payments.{ListParts}
 use Rattle.tx_list.specs.Reads.{list_of}
 use Rattle.tx_list.specs.Lists.{square_of_list}
 use Rattle.tx_list.specs.ReadRefusals.{read_refusal}
-use Rattle.tx_list.specs.Refusals.{size_refusal, Answers}
+use Rattle.tx_list.specs.Refusals.{list_size_refusal, AnswersList}
 use Rattle.da_wire.specs.declared.frames.Frame.{Frame}
 use Rattle.da_wire.specs.declared.frames.Frame.TheVariants.{Square}
 use Rattle.da_wire.specs.Spelling.{spelling}
 use Rattle.da_status.specs.declared.status.Status.{Status}
 use Rattle.da_status.specs.declared.status.Status.TheVariants.{Done, BadBlock, BadList}
-use Rattle.da_status.specs.Statuses.{kind_of}
+use Rattle.da_status.specs.Statuses.{status_kind}
 use Rattle.da_status.specs.Outcome.{Relation, Refuses}
 use Rattle.da_files.specs.declared.frames.BlockOrList.{BlockOrList}
 use Rattle.da_files.specs.declared.frames.BlockOrList.TheVariants.{Block, Transactions}
@@ -39,8 +39,8 @@ module _ {E : Type 0} (refused : E → Status) where
   written_for Written o fine w status h = subst (λ (x : Option E). written_or Written x w status) (sym fine) h
 
   -- either is an answer
-  pub written_answers : ((why : E) → IsAnswer (kind_of (refused why))) → (Fact : List ℕ → Type 0) (o : Option E) (w : List ℕ) (status : Status)
-      → written_or (λ v s. Fact v × (s ≡ Done)) o w status → IsAnswer (kind_of status)
+  pub written_answers : ((why : E) → IsAnswer (status_kind (refused why))) → (Fact : List ℕ → Type 0) (o : Option E) (w : List ℕ) (status : Status)
+      → written_or (λ v s. Fact v × (s ≡ Done)) o w status → IsAnswer (status_kind status)
   written_answers answers Fact None w status h = status_answers status Done h.1 tt
   written_answers answers Fact (Some why) w status h = status_answers status (refused why) h.1 (answers why)
 
@@ -50,11 +50,11 @@ square_written : (made square : SquareShares) (frame : Frame) → made ≡ squar
 square_written made square frame same is w status gives = (ap spelling (sym (is ∙ ap Square same)) ∙ gives.0, gives.1)
 
 -- the frame of the square of a block without a refusal
-pub builds_square : (block : BlockParts) (square : SquareShares) (frame : Frame) → layout_refusal block ≡ None → square ≡ square_of block
+pub builds_square : (block : BlockParts) (square : SquareShares) (frame : Frame) → layout_refusal block ≡ None → square ≡ block_square block
     → frame ≡ Square square → (w : List ℕ) (status : Status) → Writes frame w status → Builds block w status
 builds_square block square frame fine laid is w status gives =
-    written_for BadBlock (Writes (Square (square_of block))) (layout_refusal block) fine w status
-    (square_written square (square_of block) frame laid is w status gives)
+    written_for BadBlock (Writes (Square (block_square block))) (layout_refusal block) fine w status
+    (square_written square (block_square block) frame laid is w status gives)
 
 -- ---- lists of transactions
 
@@ -70,35 +70,35 @@ first_none (Some why) b e = absurd cc
 
 -- transactions without a refusal are read, and not refused for their size
 pub both_fine : (transactions : List (List ℕ)) → list_refusal transactions ≡ None
-    → (read_refusal transactions ≡ None) × (size_refusal (list_of transactions) ≡ None)
+    → (read_refusal transactions ≡ None) × (list_size_refusal (list_of transactions) ≡ None)
 both_fine transactions fine = (
-  first_none (read_refusal transactions) (size_refusal (list_of transactions)) fine,
-  later_none (read_refusal transactions) (size_refusal (list_of transactions)) fine,
+  first_none (read_refusal transactions) (list_size_refusal (list_of transactions)) fine,
+  later_none (read_refusal transactions) (list_size_refusal (list_of transactions)) fine,
 )
 
 -- a list that isn't read is refused for that, or for want of memory
 pub read_refused : (transactions : List (List ℕ)) (e : ListError)
     → (read_refusal transactions ≡ Some e) ⊎ ((read_refusal transactions ≡ None) × (e ≡ NoMemory))
     → (e ≡ NoMemory) ⊎ (list_refusal transactions ≡ Some e)
-read_refused transactions e (inl is) = inr (ap (λ (o : Option ListError). option_or o (size_refusal (list_of transactions))) is)
+read_refused transactions e (inl is) = inr (ap (λ (o : Option ListError). option_or o (list_size_refusal (list_of transactions))) is)
 read_refused transactions e (inr full) = inl full.1
 
 -- one that is read is refused for its size, or not at all
 pub read_whole : (transactions : List (List ℕ)) (list : ListParts) → read_refusal transactions ≡ None → list ≡ list_of transactions
-    → list_refusal transactions ≡ size_refusal list
+    → list_refusal transactions ≡ list_size_refusal list
 read_whole transactions list fine is =
-    ap (λ (o : Option ListError). option_or o (size_refusal (list_of transactions))) fine ∙ ap size_refusal (sym is)
+    ap (λ (o : Option ListError). option_or o (list_size_refusal (list_of transactions))) fine ∙ ap list_size_refusal (sym is)
 
 -- so one without a refusal isn't refused for its size
 pub whole_fits : (transactions : List (List ℕ)) (list : ListParts) → list_refusal transactions ≡ None → list ≡ list_of transactions
-    → size_refusal list ≡ None
-whole_fits transactions list fine is = ap size_refusal is ∙ later_none (read_refusal transactions) (size_refusal (list_of transactions)) fine
+    → list_size_refusal list ≡ None
+whole_fits transactions list fine is = ap list_size_refusal is ∙ later_none (read_refusal transactions) (list_size_refusal (list_of transactions)) fine
 
 -- what a call answers to one that was read is what it answers to the transactions
 pub read_answers : {X : Type 0} (transactions : List (List ℕ)) (list : ListParts) (result : Result X ListError) → read_refusal transactions ≡ None
-    → list ≡ list_of transactions → Answers result (size_refusal list) → Answers result (list_refusal transactions)
+    → list ≡ list_of transactions → AnswersList result (list_size_refusal list) → AnswersList result (list_refusal transactions)
 read_answers transactions list result fine is h =
-    subst (λ (o : Option ListError). Answers result o) (sym (read_whole transactions list fine is)) h
+    subst (λ (o : Option ListError). AnswersList result o) (sym (read_whole transactions list fine is)) h
 
 -- the frame of the square of a list without a refusal
 pub builds_list : (transactions : List (List ℕ)) (square : SquareShares) (frame : Frame) → list_refusal transactions ≡ None
@@ -111,14 +111,14 @@ builds_list transactions square frame fine laid is w status gives =
 -- ---- what build answers to its files
 
 -- what is answered to either is an answer
-either_answers : (block : BlockOrList) (w : List ℕ) (status : Status) → BuildsEither block w status → IsAnswer (kind_of status)
+either_answers : (block : BlockOrList) (w : List ℕ) (status : Status) → BuildsEither block w status → IsAnswer (status_kind status)
 either_answers (Block block) w status h =
-    written_answers BadBlock (λ why. tt) (λ v. spelling (Square (square_of block)) ≡ Some v) (layout_refusal block) w status h
+    written_answers BadBlock (λ why. tt) (λ v. spelling (Square (block_square block)) ≡ Some v) (layout_refusal block) w status h
 either_answers (Transactions transactions) w status h =
     written_answers BadList (λ why. tt) (λ v. spelling (Square (square_of_list (list_of transactions))) ≡ Some v)
     (list_refusal transactions) w status h
 
 -- what build answers to its files is an answer
-pub build_answers : (files : List (List ℕ)) (w : List ℕ) (status : Status) → BuildOf files w status → IsAnswer (kind_of status)
+pub build_answers : (files : List (List ℕ)) (w : List ℕ) (status : Status) → BuildOf files w status → IsAnswer (status_kind status)
 build_answers files w status h =
-    over_each BuildsEither (block_or_list_in (block_file files)) w status (IsAnswer (kind_of status)) (λ block. either_answers block w status) h
+    over_each BuildsEither (block_or_list_in (block_file files)) w status (IsAnswer (status_kind status)) (λ block. either_answers block w status) h

@@ -15,20 +15,20 @@ use Rattle.share_split.specs.Blobs.{NamedBytes}
 use Rattle.square_layout.specs.declared.laying.LayError.{LayError}
 use Rattle.square_layout.specs.declared.laying.LayError.TheVariants.{EmptyBlob}
 use Rattle.square_layout.specs.Blocks.{BlockParts, IsSquare}
-use Rattle.square_layout.specs.Layout.{has_name, in_order, share_count_of, start_after, end_of, compact_end, needed, square_of}
+use Rattle.square_layout.specs.Layout.{has_name, in_order, share_count_of, start_after, end_of, compact_end, needed, block_square}
 use Rattle.square_layout.specs.Plans.{blobs_bound}
 use Rattle.tx_list.specs.declared.refusals.ListError as lists
 use Rattle.tx_list.specs.declared.refusals.ListError.TheVariants.{TooLarge}
 use Rattle.tx_list.specs.Payments.{PaymentParts, ListParts, IsPayment, IsLayable, blobs_of}
 use Rattle.tx_list.specs.Reserves.{list_bound}
 use Rattle.tx_list.specs.Refusals as sizes
-use Rattle.square_layout.specs.Refusals.{max_shares, max_count, bad_blob, empty_blob, blob_refusal, size_refusal, layout_refusal}
+use Rattle.square_layout.specs.Refusals.{max_shares, most_told, bad_blob, empty_blob, blobs_refusal, size_refusal, layout_refusal}
 use Rattle.blob_commit.specs.Proofs.{is_range}
 use Rattle.blob_commit.proofs.WidthLemmas.{square_bound}
 use Rattle.blob_commit.proofs.CommitOwnLemmas.{range_parts}
 use Rattle.da_status.specs.declared.status.Status.{Status}
 use Rattle.da_status.specs.declared.status.Status.TheVariants.{Done, BadBlock, BadList}
-use Rattle.da_status.specs.Statuses.{kind_of}
+use Rattle.da_status.specs.Statuses.{status_kind}
 use Rattle.da_files.specs.declared.frames.BlockOrList.{BlockOrList}
 use Rattle.da_files.specs.declared.frames.BlockOrList.TheVariants.{Block, Transactions}
 use Rattle.da_files.specs.Frames.{block_or_list_in, WritesText}
@@ -53,16 +53,16 @@ commits_list transactions fine w status gives =
     written_for BadList (WritesText Done (list_lines transactions)) (list_refusal transactions) fine w status gives
 
 -- what is answered to either is an answer
-either_answers : (block : BlockOrList) (w : List ℕ) (status : Status) → CommitsEither block w status → IsAnswer (kind_of status)
+either_answers : (block : BlockOrList) (w : List ℕ) (status : Status) → CommitsEither block w status → IsAnswer (status_kind status)
 either_answers (Block block) w status h =
     written_answers BadBlock (λ why. tt) (λ v. v ≡ commitment_lines block.blobs) (layout_refusal block) w status h
 either_answers (Transactions transactions) w status h =
     written_answers BadList (λ why. tt) (λ v. v ≡ list_lines transactions) (list_refusal transactions) w status h
 
 -- what commit answers to its files is an answer
-pub commit_answers : (files : List (List ℕ)) (w : List ℕ) (status : Status) → CommitOf files w status → IsAnswer (kind_of status)
+pub commit_answers : (files : List (List ℕ)) (w : List ℕ) (status : Status) → CommitOf files w status → IsAnswer (status_kind status)
 commit_answers files w status h =
-    over_each CommitsEither (block_or_list_in (block_file files)) w status (IsAnswer (kind_of status)) (λ block. either_answers block w status) h
+    over_each CommitsEither (block_or_list_in (block_file files)) w status (IsAnswer (status_kind status)) (λ block. either_answers block w status) h
 
 -- ---- one of several blobs is one of them in order
 
@@ -166,18 +166,18 @@ IsLaid blob = (1 ≤ length blob.bytes) × (share_count_of blob ≤ max_shares)
 -- such are the blobs of a block that isn't refused, by what is known of their order, of its square and of their ranges
 pub laid_blobs : (block : BlockParts)
     → ((name : Namespace) (l : List NamedBytes) → filter (has_name name) (in_order l) ≡ filter (has_name name) l)
-    → IsSquare (square_of block)
+    → IsSquare (block_square block)
     → ((before after : List NamedBytes) (blob : NamedBytes) → in_order block.blobs ≡ before ++ blob ∷ after
-    → is_range (square_of block).k (start_after (end_of (compact_end block) before) blob) (share_count_of blob) ≡ true)
+    → is_range (block_square block).k (start_after (end_of (compact_end block) before) blob) (share_count_of blob) ≡ true)
     → layout_refusal block ≡ None → AllByRecursion IsLaid block.blobs
 laid_blobs block stable whole ranges fine =
     let blobs : List NamedBytes = block.blobs in
-    let sized = no_second (bad_blob 0 blobs) (empty_blob 0 blobs) (no_first (blob_refusal blobs) (size_refusal block.width (needed block)) fine) in
+    let sized = no_second (bad_blob 0 blobs) (empty_blob 0 blobs) (no_first (blobs_refusal blobs) (size_refusal block.width (needed block)) fine) in
     let few : AllByRecursion (λ (blob : NamedBytes). share_count_of blob ≤ max_shares) blobs =
     all_split (λ (blob : NamedBytes). share_count_of blob ≤ max_shares) blobs
     (λ before after blob e.
     let there = ordered blobs before after blob stable e in
-    range_few (square_of block).k _ (share_count_of blob) whole.width (ranges there.0 there.1 blob there.2)) in
+    range_few (block_square block).k _ (share_count_of blob) whole.width (ranges there.0 there.1 blob there.2)) in
     each-both HasByte (λ (blob : NamedBytes). share_count_of blob ≤ max_shares) blobs (have_bytes 0 blobs sized) few
 
 -- ---- the blobs of a list that isn't refused
@@ -190,7 +190,7 @@ size_fits count false why is e = ltb-false max_shares count is
 -- a list that isn't refused for its size has blobs that may take no more shares than the greatest square
 list_fits : (list : ListParts) → sizes.size_refusal list ≡ None → blobs_bound (blobs_of list.payments) ≤ max_shares
 list_fits list fine =
-    omega (arith, size_fits (list_bound list) (nat_lt max_shares (list_bound list)) (TooLarge (min (list_bound list) max_count)) refl fine)
+    omega (arith, size_fits (list_bound list) (nat_lt max_shares (list_bound list)) (TooLarge (min (list_bound list) most_told)) refl fine)
 
 -- blobs take no more shares than they may take together
 bound_each : (blobs : List NamedBytes) → blobs_bound blobs ≤ max_shares → AllByRecursion (λ (blob : NamedBytes). share_count_of blob ≤ max_shares) blobs

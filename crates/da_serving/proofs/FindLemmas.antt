@@ -10,7 +10,7 @@ use Rattle.namespace_id.specs.declared.namespaces.Namespace.{Namespace}
 use Rattle.namespace_id.specs.declared.shares.Share.{Share}
 use Rattle.share_split.specs.declared.joining.JoinError.{JoinError}
 use Rattle.share_split.specs.Blobs.{NamedBytes, version_of, blob_shares_of}
-use Rattle.share_split.specs.Walks.{size_in, blobs_of}
+use Rattle.share_split.specs.Walks.{size_in, blobs_joined}
 use Rattle.share_split.specs.Joined.{Piece, padding_of, piece_shares, piece_blobs, IsPiece, IsBlob, AreBlobs}
 use Rattle.share_split.specs.Joined.Piece.{padding, blob}
 use Rattle.share_split.proofs.Reading.Fields.{opening, opening_is_first}
@@ -24,12 +24,12 @@ use Rattle.square_layout.specs.Layout.{share_count_of}
 use Rattle.da_status.specs.declared.status.Asked.TheVariants.{Shares}
 use Rattle.da_status.specs.declared.status.Status.{Status}
 use Rattle.da_status.specs.declared.status.Status.TheVariants.{Done, BadRequest, Refused}
-use Rattle.da_status.specs.Statuses.{kind_of, output}
+use Rattle.da_status.specs.Statuses.{status_kind, output}
 use Rattle.da_status.specs.Outcome.{Relation, Refuses}
 use Rattle.da_files.specs.Contents.{square_file}
 use Rattle.da_files.specs.Frames.{square_in, WritesText}
 use Rattle.da_serving.specs.Blobs.{behind_compact}
-use Rattle.da_serving.specs.Find.{ArePieces, found_line, found_lines, AreFound, compact_count, found_status, Finds, FindOf}
+use Rattle.da_serving.specs.Find.{ArePieces, found_line, found_lines, AreFound, compact_front, found_status, Finds, FindOf}
 use Rattle.da_status.proofs.EndLemmas.{IsAnswer, answer_output, status_answers}
 use Rattle.da_files.proofs.FormLemmas.{over_each}
 
@@ -234,15 +234,15 @@ walk_ends commitment first shares text start rest left w none =
 -- ---- answers
 
 -- lines are a complete output, whether there are any or none
-pub found_output : (text : List ℕ) → kind_of (found_status text) ≡ output
+pub found_output : (text : List ℕ) → status_kind (found_status text) ≡ output
 found_output [] = refl
-found_output (byte ∷ text) = elim (length (byte ∷ text) == 0) as (λ b. kind_of (if b then Refused else Done) ≡ output) [ true ↦ refl | false ↦ refl ]
+found_output (byte ∷ text) = elim (length (byte ∷ text) == 0) as (λ b. status_kind (if b then Refused else Done) ≡ output) [ true ↦ refl | false ↦ refl ]
 
 -- what is answered, by what the shares are read as
 abbrev pub found_by : List ℕ → SquareShares → Result (List NamedBytes) JoinError → Relation
 found_by commitment square o w status =
     MatchResult o
-    (λ blobs. (text : List ℕ) × AreFound commitment (compact_count square) (behind_compact square.shares) text
+    (λ blobs. (text : List ℕ) × AreFound commitment (compact_front square) (behind_compact square.shares) text
     × WritesText (found_status text) text w status)
     (λ why. Refuses (BadRequest (Shares why)) w status)
 
@@ -259,20 +259,20 @@ found_same commitment first other shares others text from same found =
     subst (λ (l : List Share). AreFound commitment other l text) same (subst (λ (n : ℕ). AreFound commitment n shares text) from found)
 
 -- the lines of shares that are blobs
-pub finds_lines : (commitment : List ℕ) (square : SquareShares) (blobs : List NamedBytes) (text : List ℕ) → blobs_of (behind_compact square.shares) ≡ Ok blobs
-    → AreFound commitment (compact_count square) (behind_compact square.shares) text → (w : List ℕ) (status : Status)
+pub finds_lines : (commitment : List ℕ) (square : SquareShares) (blobs : List NamedBytes) (text : List ℕ) → blobs_joined (behind_compact square.shares) ≡ Ok blobs
+    → AreFound commitment (compact_front square) (behind_compact square.shares) text → (w : List ℕ) (status : Status)
     → WritesText (found_status text) text w status → Finds commitment square w status
 finds_lines commitment square blobs text read found w status writes =
     subst (λ (o : Result (List NamedBytes) JoinError). found_by commitment square o w status) (sym read) (text, found, writes)
 
 -- either is an answer
 either_answers : (commitment : List ℕ) (square : SquareShares) (o : Result (List NamedBytes) JoinError) (w : List ℕ) (status : Status)
-    → found_by commitment square o w status → IsAnswer (kind_of status)
+    → found_by commitment square o w status → IsAnswer (status_kind status)
 either_answers commitment square (Ok blobs) w status h = status_answers status (found_status h.0) h.2.1 (answer_output (found_status h.0) (found_output h.0))
 either_answers commitment square (Err why) w status h = status_answers status (BadRequest (Shares why)) h.1 tt
 
 -- what find answers to its files is an answer
-pub find_answers : (commitment : List ℕ) (files : List (List ℕ)) (w : List ℕ) (status : Status) → FindOf commitment files w status → IsAnswer (kind_of status)
+pub find_answers : (commitment : List ℕ) (files : List (List ℕ)) (w : List ℕ) (status : Status) → FindOf commitment files w status → IsAnswer (status_kind status)
 find_answers commitment files w status h =
-    over_each (Finds commitment) (square_in (square_file files)) w status (IsAnswer (kind_of status))
-    (λ square. either_answers commitment square (blobs_of (behind_compact square.shares)) w status) h
+    over_each (Finds commitment) (square_in (square_file files)) w status (IsAnswer (status_kind status))
+    (λ square. either_answers commitment square (blobs_joined (behind_compact square.shares)) w status) h

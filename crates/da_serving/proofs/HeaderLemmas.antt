@@ -16,7 +16,7 @@ use Rattle.frame_payloads.specs.codec.Texts.{digest_bytes}
 use Rattle.frame_payloads.specs.kinds.Header.{header_payload}
 use Rattle.frame_payloads.proofs.MessageLengths.{length-digest_bytes}
 use Rattle.da_status.specs.declared.status.Status.{Status}
-use Rattle.da_status.specs.Statuses.{kind_of}
+use Rattle.da_status.specs.Statuses.{status_kind}
 use Rattle.da_files.specs.Frames.{square_in, Writes}
 use Rattle.da_serving.specs.Header.{Heads, HeaderOf}
 use Rattle.da_files.specs.Contents.{square_file}
@@ -24,14 +24,14 @@ use Rattle.da_status.proofs.EndLemmas.{IsAnswer, status_answers}
 use Rattle.da_files.proofs.FormLemmas.{over_each}
 
 -- what header answers to a square is an answer
-heads_answers : (square : SquareShares) (w : List ℕ) (status : Status) → Heads square w status → IsAnswer (kind_of status)
+heads_answers : (square : SquareShares) (w : List ℕ) (status : Status) → Heads square w status → IsAnswer (status_kind status)
 heads_answers square w status (inl h) = status_answers status _ h.2.1 tt
 heads_answers square w status (inr h) = status_answers status _ h.1.1 tt
 
 -- what header answers to its files is an answer
-pub header_answers : (files : List (List ℕ)) (w : List ℕ) (status : Status) → HeaderOf files w status → IsAnswer (kind_of status)
+pub header_answers : (files : List (List ℕ)) (w : List ℕ) (status : Status) → HeaderOf files w status → IsAnswer (status_kind status)
 header_answers files w status h =
-    over_each Heads (square_in (square_file files)) w status (IsAnswer (kind_of status)) (λ square. heads_answers square w status) h
+    over_each Heads (square_in (square_file files)) w status (IsAnswer (status_kind status)) (λ square. heads_answers square w status) h
 
 -- the header of a square's extension is the square's
 pub own_header : (square : SquareShares) (k : ℕ) (grid : List Share) (header : Roots) → IsSquare square → k ≡ square.k

@@ -10,7 +10,7 @@ use Rattle.data_header.specs.Headers.{Roots}
 use Rattle.square_layout.specs.Blocks.{SquareShares}
 use Rattle.axis_roots.specs.declared.answers.NsEntry.{NsEntry}
 use Rattle.axis_roots.specs.Answers.{AreEntries}
-use Rattle.square_serve.specs.Shares.{shares_of}
+use Rattle.square_serve.specs.Shares.{namespace_shares}
 use Rattle.square_serve.specs.Answers.{shown, IsComplete}
 use Rattle.da_wire.specs.declared.frames.Frame.{Frame}
 use Rattle.da_wire.specs.declared.frames.Frame.TheVariants.{Names, Request}
@@ -20,7 +20,7 @@ use Rattle.da_wire.specs.Writing.{kind_of}
 use Rattle.da_wire.specs.Values.{values_of, bad_value, IsValue}
 use Rattle.da_wire.specs.Laws.{ValuesAreTheFile, BadValueIsFirst}
 use Rattle.da_status.specs.declared.status.Status.{Status}
-use Rattle.da_status.specs.Statuses.{kind_of as kind_of_status}
+use Rattle.da_status.specs.Statuses.{status_kind as kind_of_status}
 use Rattle.da_serving.specs.Choices.{HasFrame}
 use Rattle.da_files.specs.Requests.{namespace_of, namespaces_in}
 use Rattle.da_serving.specs.Namespace.{is_other, AllowsNames, NamespaceOf}
@@ -65,7 +65,7 @@ are_named whole first bytes fits =
 abbrev pub HaveAnswers : Roots → SquareShares → Type 0
 HaveAnswers header square =
     (name : names.Namespace) → IsNamespace name → is_parity name ≡ false
-    → (answer : List NsEntry) × IsComplete header name answer × AreEntries answer × (shown answer ≡ shares_of square name)
+    → (answer : List NsEntry) × IsComplete header name answer × AreEntries answer × (shown answer ≡ namespace_shares square name)
 
 -- so each request for one allows a frame that has a spelling, by what is known of frames of answers
 pub have_names : (header : Roots) (square : SquareShares) → HaveAnswers header square

@@ -26,10 +26,10 @@ use Rattle.frame_payloads.specs.kinds.Rooted.{IsRootedSent}
 use Rattle.da_status.specs.declared.status.Status.{Status}
 use Rattle.da_status.specs.declared.status.Status.TheVariants.{BadRequest}
 use Rattle.da_status.specs.declared.status.Asked.TheVariants.{NoHeader, Range}
-use Rattle.da_status.specs.Statuses.{kind_of}
+use Rattle.da_status.specs.Statuses.{status_kind}
 use Rattle.da_serving.specs.Choices.{HasFrame}
 use Rattle.da_files.specs.Frames.{square_in, Writes}
-use Rattle.da_serving.specs.Sample.{samples_in, is_asked_inside, IsSample}
+use Rattle.da_serving.specs.Sample.{samples_in, is_asked_inside, IsServedSample}
 use Rattle.da_serving.specs.Prove.{IsRootProof, AllowsRootProof, ProveOf, ProvesIn, ProvesRange, ProveRangeOf}
 use Rattle.da_files.specs.Contents.{square_file}
 use Rattle.da_status.proofs.EndLemmas.{IsAnswer, status_answers}
@@ -61,7 +61,7 @@ holds_rooted header m i k root hashes here width is leads proved =
 
 -- a root proof of a sample of a square is a root proof of the square's
 pub is_root_proof : (header : Roots) (square : SquareShares) (asked : Cell × Axis) (m : sent.Message) (proof : RootedParts) → IsHeaderOf header square
-    → IsSample square header asked m → proof.k ≡ header.k → proof.message ≡ m → RootedHolds (data_root_of header) proof → IsRootProof square header asked proof
+    → IsServedSample square header asked m → proof.k ≡ header.k → proof.message ≡ m → RootedHolds (data_root_of header) proof → IsRootProof square header asked proof
 is_root_proof header square asked m proof own is width message root = record {
   width = width ∙ header_width square.k own.grid header own.roots;
   cell = ap (λ (n : sent.Message). n.cell) message ∙ is.cell;
@@ -99,7 +99,7 @@ have_proofs header square own rooted spelled (asked ∷ requests) inside =
     )
 
 -- what prove answers to its files is an answer
-pub prove_answers : (files : List (List ℕ)) (w : List ℕ) (status : Status) → ProveOf files w status → IsAnswer (kind_of status)
+pub prove_answers : (files : List (List ℕ)) (w : List ℕ) (status : Status) → ProveOf files w status → IsAnswer (status_kind status)
 prove_answers files w status h = over_answers is_asked_inside AllowsRootProof samples_in files w status h
 
 -- ---- prove SQUARE START COUNT
@@ -140,18 +140,18 @@ module _ (square : SquareShares) (start count : ℕ) where
       inr ((λ header own. law header (ap (λ (n : ℕ). header_of_grid n grid) (sym same) ∙ sym is) own), (refl, refl))
 
   -- what is answered under a header is an answer, by whether the range is one
-  in_range : (b : Bool) (header : Roots) (w : List ℕ) (status : Status) → ProvesIn b square header start count w status → IsAnswer (kind_of status)
+  in_range : (b : Bool) (header : Roots) (w : List ℕ) (status : Status) → ProvesIn b square header start count w status → IsAnswer (status_kind status)
   in_range true header w status h = status_answers status _ h.2.1 tt
   in_range false header w status h = status_answers status _ h.1 tt
 
   -- what is answered to a range of a square is an answer
-  proves_answers : (w : List ℕ) (status : Status) → ProvesRange square start count w status → IsAnswer (kind_of status)
+  proves_answers : (w : List ℕ) (status : Status) → ProvesRange square start count w status → IsAnswer (status_kind status)
   proves_answers w status (inl h) = in_range (is_range square.k start count) h.0 w status h.2
   proves_answers w status (inr h) = status_answers status _ h.1.1 tt
 
 -- what prove answers to its file is an answer
 pub prove_range_answers : (start count : ℕ) (files : List (List ℕ)) (w : List ℕ) (status : Status) → ProveRangeOf start count files w status
-    → IsAnswer (kind_of status)
+    → IsAnswer (status_kind status)
 prove_range_answers start count files w status h =
-    over_each (λ square. ProvesRange square start count) (square_in (square_file files)) w status (IsAnswer (kind_of status))
+    over_each (λ square. ProvesRange square start count) (square_in (square_file files)) w status (IsAnswer (status_kind status))
     (λ square. proves_answers square start count w status) h

@@ -20,23 +20,23 @@ use Rattle.da_wire.specs.Spelling.{spelling, sample_kind}
 use Rattle.da_wire.specs.Reading.{is_among}
 use Rattle.da_wire.specs.Writing.{kind_of}
 use Rattle.da_status.specs.declared.status.Status.{Status}
-use Rattle.da_status.specs.Statuses.{kind_of as kind_of_status}
+use Rattle.da_status.specs.Statuses.{status_kind as kind_of_status}
 use Rattle.da_serving.specs.declared.extension.Extension.TheVariants.{Whole, Left}
 use Rattle.da_serving.specs.Choices.{HasFrame}
 use Rattle.da_serving.specs.Extension.{IsExtensionOf}
-use Rattle.da_serving.specs.Sample.{sample_of, sample_frame, samples_in, is_asked_inside, IsSample, AllowsSample, SampleOf}
+use Rattle.da_serving.specs.Sample.{asked_sample, sample_request, samples_in, is_asked_inside, IsServedSample, AllowsSample, SampleOf}
 use Rattle.da_status.proofs.EndLemmas.{IsAnswer}
 use Rattle.da_serving.proofs.ServingLemmas.{over_answers}
 
 -- a frame of this kind asks for a sample, and is the frame that does
 pub is_sample_frame : (frame : Frame) → is_among (sample_kind ∷ []) (kind_of frame) ≡ true
-    → (asked : Cell × Axis) × (sample_of frame ≡ Some asked) × (frame ≡ sample_frame asked)
+    → (asked : Cell × Axis) × (asked_sample frame ≡ Some asked) × (frame ≡ sample_request asked)
 is_sample_frame (Sample cell axis) e = ((cell, axis), refl, refl)
 is_sample_frame frame e = absurd cc
 
 -- a sample of the cell and the axis that are asked for, as a held square gives it, is one of the square
 pub is_sample : (held : HeldParts) (square : SquareShares) (asked : Cell × Axis) (m : sent.Message) → Holds held square → m.cell ≡ asked.0 → m.axis ≡ asked.1
-    → m.share ≡ share_at (2 * held.k) held.grid asked.0 → IsProved held.header m → IsSample square held.header asked m
+    → m.share ≡ share_at (2 * held.k) held.grid asked.0 → IsProved held.header m → IsServedSample square held.header asked m
 is_sample held square asked m holds cell axis share proved = record {
   cell = cell;
   axis = axis;
@@ -56,14 +56,14 @@ holds_own header square own = record { whole = own.whole; width = refl; extends 
 
 -- so is one of its whole extension, or of its left half
 pub whole_sample : (held : HeldParts) (square : SquareShares) (header : Roots) (asked : Cell × Axis) (m : sent.Message) → IsExtensionOf (Whole held) square header
-    → m.cell ≡ asked.0 → m.axis ≡ asked.1 → m.share ≡ share_at (2 * held.k) held.grid asked.0 → IsProved held.header m → IsSample square header asked m
+    → m.cell ≡ asked.0 → m.axis ≡ asked.1 → m.share ≡ share_at (2 * held.k) held.grid asked.0 → IsProved held.header m → IsServedSample square header asked m
 whole_sample held square header asked m is cell axis share proved =
-    subst (λ (h : Roots). IsSample square h asked m) is.1.1 (is_sample held square asked m is.1.0 cell axis share proved)
+    subst (λ (h : Roots). IsServedSample square h asked m) is.1.1 (is_sample held square asked m is.1.0 cell axis share proved)
 
 pub half_sample : (half : HeadedSquare) (square : SquareShares) (header : Roots) (asked : Cell × Axis) (m : sent.Message) → IsExtensionOf (Left half) square header
     → m.cell ≡ asked.0 → m.axis ≡ asked.1
     → ((grid : List Share) → Extends half.square.k half.square.shares grid → m.share ≡ share_at (2 * half.square.k) grid asked.0)
-    → IsProved half.header m → IsSample square header asked m
+    → IsProved half.header m → IsServedSample square header asked m
 half_sample half square header asked m is cell axis share proved =
     let own = is.0 in
     is_sample (held_of header square own) square asked m (holds_own header square own) cell axis
@@ -72,7 +72,7 @@ half_sample half square header asked m is cell axis share proved =
 
 -- each cell of a square has a sample
 pub own_sample : (header : Roots) (square : SquareShares) (own : IsHeaderOf header square) (asked : Cell × Axis) → is_asked_inside square asked ≡ true
-    → IsSample square header asked (message_at square.k own.grid asked.0 asked.1)
+    → IsServedSample square header asked (message_at square.k own.grid asked.0 asked.1)
 own_sample header square own asked inside =
     is_sample (held_of header square own) square asked (message_at square.k own.grid asked.0 asked.1) (holds_own header square own) refl refl refl
     (own_proved header square own.grid asked.0 asked.1 own own.extends inside)

@@ -16,7 +16,7 @@ use Rattle.da_wire.specs.Spelling.{spelling}
 use Rattle.da_status.specs.declared.status.Status.{Status}
 use Rattle.da_status.specs.declared.status.Status.TheVariants.{Done, Usage, PickFault, ReadFault, WriteFault, NoMemory, BadInput, TooLong, BadBlock, BadList, BadRequest, Fraud, Missing, Clash, Refused, Waiting}
 use Rattle.da_status.specs.declared.status.Asked.TheVariants.{NoHeader, At}
-use Rattle.da_status.specs.Statuses.{kind_of}
+use Rattle.da_status.specs.Statuses.{status_kind}
 use Rattle.da_serving.specs.Choices.{FramesOf, HasFrame}
 use Rattle.da_status.specs.Judging.{Judged}
 use Rattle.da_status.specs.Outcome.{Relation, Refuses, Outputs, OutputsPart, OutputsFront, Ends, EndsAtOnce}
@@ -24,7 +24,7 @@ use Rattle.da_files.specs.Contents.{square_file}
 use Rattle.da_files.specs.Forms.{Over}
 use Rattle.da_files.specs.Frames.{error_of, square_in, Writes}
 use Rattle.da_files.specs.Requests.{failing_from}
-use Rattle.da_serving.specs.Serving.{requests_file, Gives, Serves}
+use Rattle.da_serving.specs.Serving.{requests_file, GivesFrames, Serves}
 use Rattle.da_status.proofs.EndLemmas.{IsAnswer, status_answers, ends_in_fault, ends_output, ends_within, once_as}
 use Rattle.da_files.proofs.FileLemmas.{some_there}
 use Rattle.da_files.proofs.FormLemmas.{over_each, single_is}
@@ -94,15 +94,15 @@ module _ {A : Type 0} (Allows : A → Frame → Type 0) where
     parts = s.4 ∙ ap (λ (l : List A). s.0 ++ l) next
 
     -- a write of the next frame failed
-    stopped_write : OutputsPart (Writes frame) mid new → now ≡ count_on before 1 → Ends (Gives Allows all) old new before now Same WriteFault
+    stopped_write : OutputsPart (Writes frame) mid new → now ≡ count_on before 1 → Ends (GivesFrames Allows all) old new before now Same WriteFault
     stopped_write h counted =
         let full = whole s.0 later all request frame s.1 h.0 s.2 parts allowed h.2.0 to_come in
-        ends_in_fault (Gives Allows all) (s.1 ++ (h.0 ++ full.0)) Done old new before now Same (full.1, refl)
+        ends_in_fault (GivesFrames Allows all) (s.1 ++ (h.0 ++ full.0)) Done old new before now Same (full.1, refl)
         (part_of_back old mid new s.1 (h.0 ++ full.0) s.3 (part_of_front mid new h.0 full.0 h.3)) counted told
 
     -- memory ran out at the next frame
     stopped_memory : (text : List ℕ) → spelling frame ≡ Some text → OutputsFront (Writes frame) mid new → now ≡ before
-        → Ends (Gives Allows all) old new before now Same NoMemory
+        → Ends (GivesFrames Allows all) old new before now Same NoMemory
     stopped_memory text spelled h counted =
         let full = whole s.0 later all request frame s.1 text s.2 parts allowed spelled to_come in
         let proper = proper_on s.1 h.0 text full.0 (proper_part frame text h.0 spelled h.2) in
@@ -116,7 +116,7 @@ module _ {A : Type 0} (Allows : A → Frame → Type 0) where
 
     -- the next frame was not written whole
     pub served_stopped : (counted : ℕ) → counted ≡ before → IsSome (spelling frame) → (SameText : Type 0) (status : Status) → (status ≡ Done → ⊥)
-        → Ends (Writes frame) mid new counted now SameText status → Ends (Gives Allows all) old new before now Same status
+        → Ends (Writes frame) mid new counted now SameText status → Ends (GivesFrames Allows all) old new before now Same status
     served_stopped counted same spelled SameText Done failed ends = absurd (failed refl)
     served_stopped counted same spelled SameText Usage failed ends = absurd ends.own
     served_stopped counted same spelled SameText (PickFault i) failed ends = absurd ends.own
@@ -137,7 +137,7 @@ module _ {A : Type 0} (Allows : A → Frame → Type 0) where
 
   -- memory ran out before the next frame was made
   pub served_memory : (old new : Option (List ℕ)) (all rest : List A) (before now : ℕ) (Same : Type 0) → Served old new all rest → HasRequest rest
-      → AllByRecursion (HasFrame Allows) rest → now ≡ before → (IsSome old ↔ IsSome new) → Ends (Gives Allows all) old new before now Same NoMemory
+      → AllByRecursion (HasFrame Allows) rest → now ≡ before → (IsSome old ↔ IsSome new) → Ends (GivesFrames Allows all) old new before now Same NoMemory
   served_memory old new all rest before now Same s some to_come counted told =
       let frames = subst (AllByRecursion (HasFrame Allows)) some.2 to_come in
       let first = frames.0 in
@@ -146,28 +146,28 @@ module _ {A : Type 0} (Allows : A → Frame → Type 0) where
 
   -- all were answered
   pub served_all : (old new : Option (List ℕ)) (all rest : List A) (before now : ℕ) (Same : Type 0) → Served old new all rest → rest ≡ []
-      → now ≡ before → (IsSome old ↔ IsSome new) → Ends (Gives Allows all) old new before now Same Done
+      → now ≡ before → (IsSome old ↔ IsSome new) → Ends (GivesFrames Allows all) old new before now Same Done
   served_all old new all rest before now Same s none counted told =
       let same : s.0 ≡ all = sym (append-nil s.0) ∙ ap (λ (l : List A). s.0 ++ l) (sym none) ∙ sym s.4 in
-      ends_output (Gives Allows all) s.1 Done old new before now Same refl (subst (λ (l : List A). FramesOf Allows l s.1) same s.2, refl) s.3 counted told
+      ends_output (GivesFrames Allows all) s.1 Done old new before now Same refl (subst (λ (l : List A). FramesOf Allows l s.1) same s.2, refl) s.3 counted told
 
 -- ---- what is answered over a square
 
 module _ {A : Type 0} (square : SquareShares) (test : A → Bool) (Allows : Roots → A → Frame → Type 0) (requests : List A) where
   -- what is answered, by the first request that fails the test
   abbrev answers_by : Option ℕ → Roots → Relation
-  answers_by o header w status = MatchOption o (Gives (Allows header) requests w status) (λ i. Refuses (BadRequest (At i)) w status)
+  answers_by o header w status = MatchOption o (GivesFrames (Allows header) requests w status) (λ i. Refuses (BadRequest (At i)) w status)
 
   -- frames for all requests under the header of the square
   pub serves_gives : (header : Roots) → IsHeaderOf header square → failing_from test 0 requests ≡ None → (w : List ℕ) (status : Status)
-      → Gives (Allows header) requests w status → Serves square test Allows requests w status
+      → GivesFrames (Allows header) requests w status → Serves square test Allows requests w status
   serves_gives header own none w status gives = inl (header, own, subst (λ (o : Option ℕ). answers_by o header w status) (sym none) gives)
 
   -- so it ends by what is answered over the square
   pub serves_ends : (header : Roots) → IsHeaderOf header square → failing_from test 0 requests ≡ None → (old new : Option (List ℕ)) (before now : ℕ) (Same : Type 0)
-      (status : Status) → Ends (Gives (Allows header) requests) old new before now Same status → Ends (Serves square test Allows requests) old new before now Same status
+      (status : Status) → Ends (GivesFrames (Allows header) requests) old new before now Same status → Ends (Serves square test Allows requests) old new before now Same status
   serves_ends header own none old new before now Same status ends =
-      ends_within (Gives (Allows header) requests) (Serves square test Allows requests) old new before now Same status (serves_gives header own none) ends
+      ends_within (GivesFrames (Allows header) requests) (Serves square test Allows requests) old new before now Same status (serves_gives header own none) ends
 
   -- the first request that fails the test
   pub serves_at : (header : Roots) (i : ℕ) → IsHeaderOf header square → failing_from test 0 requests ≡ Some i → Serves square test Allows requests [] (BadRequest (At i))
@@ -179,22 +179,22 @@ module _ {A : Type 0} (square : SquareShares) (test : A → Bool) (Allows : Root
   serves_none none = inr (none, (refl, refl))
 
   -- what is answered under a header is an answer
-  under_header : (o : Option ℕ) (header : Roots) (w : List ℕ) (status : Status) → answers_by o header w status → IsAnswer (kind_of status)
+  under_header : (o : Option ℕ) (header : Roots) (w : List ℕ) (status : Status) → answers_by o header w status → IsAnswer (status_kind status)
   under_header None header w status h = status_answers status _ h.1 tt
   under_header (Some i) header w status h = status_answers status _ h.1 tt
 
   -- what is answered over a square is an answer
-  pub serves_answers : (w : List ℕ) (status : Status) → Serves square test Allows requests w status → IsAnswer (kind_of status)
+  pub serves_answers : (w : List ℕ) (status : Status) → Serves square test Allows requests w status → IsAnswer (status_kind status)
   serves_answers w status (inl h) = under_header (failing_from test 0 requests) h.0 w status h.2
   serves_answers w status (inr h) = status_answers status _ h.1.1 tt
 
 -- what a command answers to a SQUARE and REQUESTS is an answer
 pub over_answers : {A : Type 0} (test : SquareShares → A → Bool) (Allows : SquareShares → Roots → A → Frame → Type 0) (asked : List ℕ → List A) (files : List (List ℕ))
     (w : List ℕ) (status : Status)
-    → Over (square_in (square_file files)) (λ square. Serves square (test square) (Allows square) (asked (requests_file files))) w status → IsAnswer (kind_of status)
+    → Over (square_in (square_file files)) (λ square. Serves square (test square) (Allows square) (asked (requests_file files))) w status → IsAnswer (status_kind status)
 over_answers test Allows asked files w status h =
     let requests = asked (requests_file files) in
-    over_each (λ square. Serves square (test square) (Allows square) requests) (square_in (square_file files)) w status (IsAnswer (kind_of status))
+    over_each (λ square. Serves square (test square) (Allows square) requests) (square_in (square_file files)) w status (IsAnswer (status_kind status))
     (λ square. serves_answers square (test square) (Allows square) requests w status) h
 
 -- a command over one file that was read as a value ends by the answer to the value

@@ -20,10 +20,10 @@ use Rattle.share_split.specs.Widths.{subtree_width_of}
 use Rattle.share_split.specs.Blobs.{NamedBytes, IsNamed}
 use Rattle.share_split.specs.Units.{unit_shares_of}
 use Rattle.share_split.specs.Joined.{Piece, padding_share, piece_blobs, IsBlob, AreBlobs}
-use Rattle.share_split.specs.Walks.{blobs_of}
+use Rattle.share_split.specs.Walks.{blobs_joined}
 use Rattle.square_layout.specs.Blocks.{SquareShares}
 use Rattle.square_layout.specs.Layout.{in_order, share_count_of, start_after, end_of, placed_behind}
-use Rattle.square_layout.specs.Refusals.{max_shares, max_count}
+use Rattle.square_layout.specs.Refusals.{max_shares, most_told}
 use Rattle.square_layout.specs.Plans.{PlanParts, front, lead, planned, plan_width, square_of_plan}
 use Rattle.square_layout.proofs.BlobOrderLemmas.{All-in_order}
 use Rattle.square_layout.proofs.PlanLemmas.{length-front, lead-in_order}
@@ -33,7 +33,7 @@ use Rattle.tx_list.specs.Payments.{ListParts, IsPayment, blobs_of as blobs_in}
 use Rattle.tx_list.specs.Reserves.{list_reserve, list_bound}
 use Rattle.tx_list.specs.Reads.{list_of}
 use Rattle.tx_list.specs.ReadRefusals.{read_refusal}
-use Rattle.tx_list.specs.Refusals.{size_refusal}
+use Rattle.tx_list.specs.Refusals.{list_size_refusal}
 use Rattle.tx_list.specs.OfBytes.{IsOfBytes}
 use Rattle.tx_list.specs.Lists.{plan_of_list, square_of_list}
 use Rattle.tx_list.specs.Ranges.{IsStart, IsRangeOf}
@@ -43,14 +43,14 @@ use Rattle.axis_roots.specs.Grids.{IsHeaderOf}
 use Rattle.square_serve.specs.Shares.{is_named}
 use Rattle.blob_commit.specs.Commitments.{commitment_over}
 use Rattle.blob_commit.specs.Proofs.{CommitParts, IsCommit, CommitHolds, is_range}
-use Rattle.blob_commit.specs.Places.{CommitText, NamesClash, CommitsOwn, IsOwnCommit}
+use Rattle.blob_commit.specs.Places.{CommitText, PlacesNameClash, CommitsOwn, IsOwnCommit}
 use Rattle.da_status.specs.declared.status.Status.{Status}
 use Rattle.da_status.specs.declared.status.Status.TheVariants.{Done, Refused}
 use Rattle.da_status.specs.Notes.{two_numbers}
 use Rattle.da_files.specs.Frames.{WritesText}
 use Rattle.da_serving.specs.Blobs.{is_compact, behind_compact}
 use Rattle.da_serving.specs.Commit.{commitment_of}
-use Rattle.da_serving.specs.Find.{range_line, AreFound, compact_count, found_status, Finds}
+use Rattle.da_serving.specs.Find.{range_line, AreFound, compact_front, found_status, Finds}
 use Rattle.da_serving.specs.Prove.{ProvesIn, ProvesRange}
 use Rattle.da_serving.specs.Stated.{IsBuilt, ProvesBlob, ranges_from, ranges_of, range_lines, WritesRanges}
 use Rattle.da_serving.proofs.BuildLemmas.{both_fine}
@@ -64,7 +64,7 @@ use Rattle.da_serving.proofs.LineLemmas.{AreLined, lines_same, plan_lined}
 pub built_few : (transactions : List (List ℕ)) → IsBuilt transactions → list_bound (list_of transactions) ≤ max_shares
 built_few transactions is =
     let bound : ℕ = list_bound (list_of transactions) in
-    let within = if_none (nat_lt max_shares bound) (TooLarge (min bound max_count)) None (both_fine transactions is.accepted).1 in
+    let within = if_none (nat_lt max_shares bound) (TooLarge (min bound most_told)) None (both_fine transactions is.accepted).1 in
     ltb-false max_shares bound within.0
 
 -- ---- a proof of a blob's range
@@ -97,7 +97,7 @@ proves_blob commits square place one is other there w status (inl (header, own, 
       proves = proves;
       states =
           ⊎_elim (λ (o : CommitsOwn proof square). inl (range_commitment square place one proof is proves.start proves.count o))
-          (λ (clash : NamesClash (CommitText proof) square). inr clash) (commits header proof proves.lengths proves.holds square own);
+          (λ (clash : PlacesNameClash (CommitText proof) square). inr clash) (commits header proof proves.lengths proves.holds square own);
       writes = writes;
     }
     by false e refused = absurd cc
@@ -132,7 +132,7 @@ plan_behind plan named =
     (others_both (behind_fronts plan) (others_behind transaction plan transaction_is named) (others_behind pay_for_blob plan pay_for_blob_is named))
 
 plan_compact : (plan : PlanParts) → AllByRecursion (λ blob. is_blob_namespace blob.namespace.0 ≡ true) plan.blobs
-    → compact_count (square_of_plan plan) ≡ length (front plan)
+    → compact_front (square_of_plan plan) ≡ length (front plan)
 plan_compact plan named =
     omega (
       arith,
@@ -166,7 +166,7 @@ pub record IsLaid (list : ListParts) : Type 0 where
 -- so is a list that isn't refused, by what is known of lists
 pub built_laid : ((transactions : List (List ℕ)) → read_refusal transactions ≡ None → AllByRecursion IsPayment (list_of transactions).payments)
     → ((list : ListParts) → IsOfBytes list → AreShares (square_of_list list).shares)
-    → ((list : ListParts) → AllByRecursion IsPayment list.payments → AllByRecursion IsNamed (blobs_in list.payments) → size_refusal list ≡ None
+    → ((list : ListParts) → AllByRecursion IsPayment list.payments → AllByRecursion IsNamed (blobs_in list.payments) → list_size_refusal list ≡ None
     → AllByRecursion IsBlob (blobs_in list.payments))
     → (transactions : List (List ℕ)) → IsBuilt transactions → IsLaid (list_of transactions)
 built_laid kept of_shares of_blobs transactions is =
@@ -182,7 +182,7 @@ built_laid kept of_shares of_blobs transactions is =
 -- the shares behind the compact ones, and how many these are, with the lines of a commitment
 pub record IsSeen (commitment : List ℕ) (list : ListParts) : Type 0 where
   pub behind : behind_compact (square_of_list list).shares ≡ behind_fronts (plan_of_list list)
-  pub count : compact_count (square_of_list list) ≡ length (front (plan_of_list list))
+  pub count : compact_front (square_of_list list) ≡ length (front (plan_of_list list))
   pub fits : AreShares (behind_fronts (plan_of_list list))
   pub lined : AreLined commitment (length (front (plan_of_list list))) (behind_fronts (plan_of_list list)) (in_order (blobs_in list.payments)) (range_lines (ranges_of commitment list))
 
@@ -211,25 +211,25 @@ lined_blobs commitment start shares blobs text are =
 ok_same : (one other : List NamedBytes) → ◌≡◌ {A = Result (List NamedBytes) JoinError} (Ok one) (Ok other) → one ≡ other
 ok_same one other e = cc
 
-module _ (join : (shares : List Share) (blobs : List NamedBytes) → AreShares shares → (blobs_of shares ≡ Ok blobs) ↔ AreBlobs shares blobs)
+module _ (join : (shares : List Share) (blobs : List NamedBytes) → AreShares shares → (blobs_joined shares ≡ Ok blobs) ↔ AreBlobs shares blobs)
     (list : ListParts) (is : IsLaid list) where
   -- exactly its blobs are read of its square
-  pub list_read : blobs_of (behind_compact (square_of_list list).shares) ≡ Ok (in_order (blobs_in list.payments))
+  pub list_read : blobs_joined (behind_compact (square_of_list list).shares) ≡ Ok (in_order (blobs_in list.payments))
   list_read =
       let seen = list_seen [] list is in
-      ap blobs_of seen.behind
+      ap blobs_joined seen.behind
       ∙ (join (behind_fronts (plan_of_list list)) (in_order (blobs_in list.payments)) seen.fits).1
       (lined_blobs [] (length (front (plan_of_list list))) (behind_fronts (plan_of_list list)) (in_order (blobs_in list.payments))
       (range_lines (ranges_of [] list)) seen.lined)
 
   -- lines that are found are those of its ranges
-  found_is : (commitment text : List ℕ) → AreFound commitment (compact_count (square_of_list list)) (behind_compact (square_of_list list).shares) text
+  found_is : (commitment text : List ℕ) → AreFound commitment (compact_front (square_of_list list)) (behind_compact (square_of_list list).shares) text
       → text ≡ range_lines (ranges_of commitment list)
   found_is commitment text found =
       let seen = list_seen commitment list is in
       let shares : List Share = behind_fronts (plan_of_list list) in
       let count : ℕ = length (front (plan_of_list list)) in
-      let there = found_same commitment (compact_count (square_of_list list)) count (behind_compact (square_of_list list).shares) shares text seen.count
+      let there = found_same commitment (compact_front (square_of_list list)) count (behind_compact (square_of_list list).shares) shares text seen.count
       seen.behind found in
       let pieces : List Piece = there.0 in
       let read : AreBlobs shares (flat_map piece_blobs pieces) =

@@ -3,7 +3,7 @@ use Rattle.std.proofs.Common.{◌≡◌, ◌∙◌, ℕ, List, [], ◌++◌, Som
 use Rattle.std.specs.Prelude.{MatchOption}
 use Rattle.std.specs.declared.option.Option.{Option}
 use Rattle.square_layout.specs.Blocks.{SquareShares}
-use Rattle.tx_list.specs.Spelled.{spelled}
+use Rattle.tx_list.specs.Spelled.{spelled_list}
 use Rattle.tx_list.specs.declared.refusals.BackError.{BackError}
 use Rattle.tx_list.specs.BackRefusals.{back_list, back_refusal}
 use Rattle.da_wire.specs.declared.frames.Frame.TheVariants.{Transactions}
@@ -12,7 +12,7 @@ use Rattle.da_wire.specs.Writing.{AppendsSpelling}
 use Rattle.da_status.specs.declared.status.Asked.TheVariants.{NoList, LongList}
 use Rattle.da_status.specs.declared.status.Status.{Status}
 use Rattle.da_status.specs.declared.status.Status.TheVariants.{Done, BadRequest}
-use Rattle.da_status.specs.Statuses.{kind_of}
+use Rattle.da_status.specs.Statuses.{status_kind}
 use Rattle.da_status.specs.Outcome.{Relation, Refuses}
 use Rattle.da_files.specs.Contents.{square_file}
 use Rattle.da_files.specs.Frames.{square_in, WritesText}
@@ -37,25 +37,25 @@ list_written transactions fresh bytes text none appended same w status writes =
     subst (λ (o : Option (List ℕ)). list_by o w status) (sym appended.1) (all, writes.1)
 
 -- either is an answer
-list_answers : (o : Option (List ℕ)) (w : List ℕ) (status : Status) → list_by o w status → IsAnswer (kind_of status)
+list_answers : (o : Option (List ℕ)) (w : List ℕ) (status : Status) → list_by o w status → IsAnswer (status_kind status)
 list_answers None w status h = status_answers status (BadRequest LongList) h.1 tt
 list_answers (Some text) w status h = status_answers status Done h.1 tt
 
 -- the list of a square without a refusal
-pub unlays_list : (square : SquareShares) (transactions : List (List ℕ)) → back_refusal square ≡ None → transactions ≡ spelled (back_list square)
+pub unlays_list : (square : SquareShares) (transactions : List (List ℕ)) → back_refusal square ≡ None → transactions ≡ spelled_list (back_list square)
     → (w : List ℕ) (status : Status) → WritesList transactions w status → Unlays square w status
 unlays_list square transactions fine is w status writes =
-    written_for (λ (why : BackError). BadRequest (NoList why)) (WritesList (spelled (back_list square))) (back_refusal square) fine w status
+    written_for (λ (why : BackError). BadRequest (NoList why)) (WritesList (spelled_list (back_list square))) (back_refusal square) fine w status
     (subst (λ (l : List (List ℕ)). WritesList l w status) is writes)
 
 -- what is answered to a square is an answer
 square_answers : (o : Option BackError) (transactions : List (List ℕ)) (w : List ℕ) (status : Status)
-    → written_or (λ (why : BackError). BadRequest (NoList why)) (WritesList transactions) o w status → IsAnswer (kind_of status)
+    → written_or (λ (why : BackError). BadRequest (NoList why)) (WritesList transactions) o w status → IsAnswer (status_kind status)
 square_answers None transactions w status h = list_answers (spelling (Transactions transactions)) w status h
 square_answers (Some why) transactions w status h = status_answers status (BadRequest (NoList why)) h.1 tt
 
 -- what transactions answers to its files is an answer
-pub transactions_answers : (files : List (List ℕ)) (w : List ℕ) (status : Status) → TransactionsOf files w status → IsAnswer (kind_of status)
+pub transactions_answers : (files : List (List ℕ)) (w : List ℕ) (status : Status) → TransactionsOf files w status → IsAnswer (status_kind status)
 transactions_answers files w status h =
-    over_each Unlays (square_in (square_file files)) w status (IsAnswer (kind_of status))
-    (λ square. square_answers (back_refusal square) (spelled (back_list square)) w status) h
+    over_each Unlays (square_in (square_file files)) w status (IsAnswer (status_kind status))
+    (λ square. square_answers (back_refusal square) (spelled_list (back_list square)) w status) h

@@ -7,16 +7,16 @@ use Rattle.da_wire.specs.declared.frames.Frame.{Frame}
 use Rattle.da_wire.specs.Values.{text_of}
 use Rattle.da_wire.specs.Writing.{AppendsSpelling}
 use Rattle.da_status.specs.declared.status.Status.{Status}
-use Rattle.da_status.specs.Statuses.{kind_of, output}
+use Rattle.da_status.specs.Statuses.{status_kind, output}
 use Rattle.da_serving.specs.Wanted.{missing_file, missing_in, Wants, WantedOf}
 use Rattle.da_files.proofs.FormLemmas.{over_each}
 
 -- ---- the file
 
 -- what wanted answers comes with a complete output
-pub wanted_last : (axis : Axis) (files : List (List ℕ)) (w : List ℕ) (status : Status) → WantedOf axis files w status → kind_of status ≡ output
+pub wanted_last : (axis : Axis) (files : List (List ℕ)) (w : List ℕ) (status : Status) → WantedOf axis files w status → status_kind status ≡ output
 wanted_last axis files w status h =
-    over_each (Wants axis) (missing_in (missing_file files)) w status (kind_of status ≡ output) (λ cells wants. ap kind_of wants.1) h
+    over_each (Wants axis) (missing_in (missing_file files)) w status (status_kind status ≡ output) (λ cells wants. ap status_kind wants.1) h
 
 -- ---- requests
 

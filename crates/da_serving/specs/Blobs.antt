@@ -4,7 +4,7 @@ use Rattle.std.specs.List.{flat_map}
 use Rattle.namespace_id.specs.declared.shares.Share.{Share}
 use Rattle.namespace_id.specs.Names.{transaction, pay_for_blob}
 use Rattle.share_split.specs.Blobs.{NamedBytes}
-use Rattle.share_split.specs.Walks.{blobs_of}
+use Rattle.share_split.specs.Walks.{blobs_joined}
 use Rattle.square_layout.specs.Blocks.{BlockParts}
 use Rattle.axis_roots.specs.declared.answers.NsEntry.{NsEntry}
 use Rattle.square_serve.specs.Shares.{is_named}
@@ -17,7 +17,7 @@ use Rattle.da_status.specs.declared.status.Asked.TheVariants.{Shares}
 use Rattle.da_status.specs.declared.status.Status.TheVariants.{BadRequest}
 use Rattle.da_status.specs.Outcome.{Relation, Refuses}
 use Rattle.da_files.specs.Contents.{file_of}
-use Rattle.da_files.specs.Frames.{single, Writes}
+use Rattle.da_files.specs.Frames.{single_file, Writes}
 use Rattle.da_files.specs.Forms.{Over}
 
 -- ---- SHARES
@@ -38,18 +38,18 @@ answer_shares entries = flat_map (λ entry. shares_found entry.found) entries
 
 -- the shares that a frame has for blobs: of a square those behind its compact shares, of a namespace answer all; frames
 -- of other kinds have none, and none comes here
-abbrev pub shares_of : Frame → List Share
-shares_of (Square square) = behind_compact square.shares
-shares_of (Names name answer) = answer_shares answer
-shares_of frame = []
+abbrev pub frame_shares : Frame → List Share
+frame_shares (Square square) = behind_compact square.shares
+frame_shares (Names name answer) = answer_shares answer
+frame_shares frame = []
 
 -- the kinds of frames that have shares for blobs
 abbrev pub share_kinds : List ℕ
 share_kinds = square_kind ∷ names_kind ∷ []
 
 -- the square or the namespace answer that a file is, or where it stops being one
-abbrev pub shares_in : List ℕ → Result Frame ℕ
-shares_in bytes = single Some (only_of bytes share_kinds)
+abbrev pub shares_frame : List ℕ → Result Frame ℕ
+shares_frame bytes = single_file Some (only_of bytes share_kinds)
 
 -- ---- the command
 
@@ -62,11 +62,11 @@ abbrev pub block_with : List NamedBytes → BlockParts
 block_with blobs = record { units = []; pay_units = []; blobs = blobs; width = None }
 
 -- what is answered to shares: the frame of their blobs, or the refusal of shares that are no blobs
-abbrev pub Joins : List Share → Relation
-Joins shares w status =
-    MatchResult (blobs_of shares) (λ blobs. Writes (Block (block_with blobs)) w status)
+abbrev pub JoinsShares : List Share → Relation
+JoinsShares shares w status =
+    MatchResult (blobs_joined shares) (λ blobs. Writes (Block (block_with blobs)) w status)
     (λ why. Refuses (BadRequest (Shares why)) w status)
 
 -- what blobs answers to a SHARES that is a square or a namespace answer
 abbrev pub BlobsOf : List (List ℕ) → Relation
-BlobsOf files = Over (shares_in (shares_file files)) (λ frame. Joins (shares_of frame))
+BlobsOf files = Over (shares_frame (shares_file files)) (λ frame. JoinsShares (frame_shares frame))

@@ -8,10 +8,10 @@ use Rattle.da_serving.specs.declared.extension.Extension.{Extension}
 use Rattle.da_serving.specs.declared.extension.Extension.TheVariants.{Whole, Left}
 
 -- what is kept of it is a square's, with this header
-abbrev pub Keeps : Extension → SquareShares → Roots → Type 0
-Keeps (Whole held) square header = Holds held square × (held.header ≡ header)
-Keeps (Left half) square header = (half.square ≡ square) × (half.header ≡ header)
+abbrev pub KeepsExtension : Extension → SquareShares → Roots → Type 0
+KeepsExtension (Whole held) square header = Holds held square × (held.header ≡ header)
+KeepsExtension (Left half) square header = (half.square ≡ square) × (half.header ≡ header)
 
 -- it is that of a square, and this is the square's header
 abbrev pub IsExtensionOf : Extension → SquareShares → Roots → Type 0
-IsExtensionOf extension square header = IsHeaderOf header square × Keeps extension square header
+IsExtensionOf extension square header = IsHeaderOf header square × KeepsExtension extension square header

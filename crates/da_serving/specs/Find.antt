@@ -4,7 +4,7 @@ use Rattle.std.specs.List.{flat_map, AllByRecursion}
 use Rattle.std.specs.Str.{bytes_eq}
 use Rattle.namespace_id.specs.declared.shares.Share.{Share}
 use Rattle.share_split.specs.Joined.{Piece, padding, blob, piece_shares, IsPiece}
-use Rattle.share_split.specs.Walks.{blobs_of}
+use Rattle.share_split.specs.Walks.{blobs_joined}
 use Rattle.square_layout.specs.Blocks.{SquareShares}
 use Rattle.square_layout.specs.Layout.{share_count_of}
 use Rattle.da_status.specs.declared.status.Asked.TheVariants.{Shares}
@@ -45,8 +45,8 @@ AreFound commitment first shares text =
     (pieces : List Piece) × ArePieces shares pieces × (text ≡ found_lines commitment first pieces)
 
 -- how many shares are compact at the front of a square
-abbrev pub compact_count : SquareShares → ℕ
-compact_count square = length square.shares - length (behind_compact square.shares)
+abbrev pub compact_front : SquareShares → ℕ
+compact_front square = length square.shares - length (behind_compact square.shares)
 
 -- the status of lines: there is one, or none
 abbrev pub found_status : List ℕ → Status
@@ -55,8 +55,8 @@ found_status text = if length text == 0 then Refused else Done
 -- what find answers to a square: the lines of its blobs with this commitment, or the refusal of shares that are no blobs
 abbrev pub Finds : List ℕ → SquareShares → Relation
 Finds commitment square w status =
-    MatchResult (blobs_of (behind_compact square.shares))
-    (λ blobs. (text : List ℕ) × AreFound commitment (compact_count square) (behind_compact square.shares) text
+    MatchResult (blobs_joined (behind_compact square.shares))
+    (λ blobs. (text : List ℕ) × AreFound commitment (compact_front square) (behind_compact square.shares) text
     × WritesText (found_status text) text w status)
     (λ why. Refuses (BadRequest (Shares why)) w status)
 

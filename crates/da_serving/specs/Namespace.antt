@@ -5,7 +5,7 @@ use Rattle.namespace_id.specs.Names.{is_parity}
 use Rattle.data_header.specs.Headers.{Roots}
 use Rattle.square_layout.specs.Blocks.{SquareShares}
 use Rattle.axis_roots.specs.declared.answers.NsEntry.{NsEntry}
-use Rattle.square_serve.specs.Shares.{shares_of}
+use Rattle.square_serve.specs.Shares.{namespace_shares}
 use Rattle.square_serve.specs.Answers.{shown, IsComplete}
 use Rattle.da_wire.specs.declared.frames.Frame.{Frame}
 use Rattle.da_wire.specs.declared.frames.Frame.TheVariants.{Names}
@@ -23,7 +23,7 @@ is_other name = not (is_parity name)
 -- an answer is complete for a namespace under the header, and shows exactly its shares in the square
 pub record IsAnswer (square : SquareShares) (header : Roots) (name : names.Namespace) (answer : List NsEntry) : Type 0 where
   pub complete : IsComplete header name answer
-  pub shares : shown answer ≡ shares_of square name
+  pub shares : shown answer ≡ namespace_shares square name
 
 -- the frames that a request for a namespace allows
 abbrev pub AllowsNames : SquareShares → Roots → names.Namespace → Frame → Type 0

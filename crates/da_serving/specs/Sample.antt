@@ -22,17 +22,17 @@ use Rattle.da_serving.specs.Serving.{requests_file, Serves}
 use Rattle.da_files.specs.Contents.{square_file}
 
 -- the sample that a frame asks for
-abbrev pub sample_of : Frame → Option (Cell × Axis)
-sample_of (Sample cell axis) = Some (cell, axis)
-sample_of frame = None
+abbrev pub asked_sample : Frame → Option (Cell × Axis)
+asked_sample (Sample cell axis) = Some (cell, axis)
+asked_sample frame = None
 
 -- the frame that asks for a sample
-abbrev pub sample_frame : Cell × Axis → Frame
-sample_frame asked = Sample asked.0 asked.1
+abbrev pub sample_request : Cell × Axis → Frame
+sample_request asked = Sample asked.0 asked.1
 
 -- the samples that a file asks for
 abbrev pub samples_in : List ℕ → List (Cell × Axis)
-samples_in bytes = filter_map sample_of (values_of (sample_kind ∷ []) bytes)
+samples_in bytes = filter_map asked_sample (values_of (sample_kind ∷ []) bytes)
 
 -- whether the square has the cell that is asked for
 abbrev pub is_asked_inside : SquareShares → Cell × Axis → Bool
@@ -40,7 +40,7 @@ is_asked_inside square asked = is_in_square square.k asked.0
 
 -- a sample is of the cell and the axis that are asked for, shows the share that the square's extension has at the
 -- cell, and is proved under the header
-pub record IsSample (square : SquareShares) (header : Roots) (asked : Cell × Axis) (m : sent.Message) : Type 0 where
+pub record IsServedSample (square : SquareShares) (header : Roots) (asked : Cell × Axis) (m : sent.Message) : Type 0 where
   pub cell : m.cell ≡ asked.0
   pub axis : m.axis ≡ asked.1
   pub grid : List Share
@@ -50,7 +50,7 @@ pub record IsSample (square : SquareShares) (header : Roots) (asked : Cell × Ax
 
 -- the frames that a request for a sample allows
 abbrev pub AllowsSample : SquareShares → Roots → Cell × Axis → Frame → Type 0
-AllowsSample square header asked frame = (m : sent.Message) × IsSample square header asked m × (frame ≡ Message m)
+AllowsSample square header asked frame = (m : sent.Message) × IsServedSample square header asked m × (frame ≡ Message m)
 
 -- what sample answers to a SQUARE that is a square: an M frame for each request, in their order
 abbrev pub SampleOf : List (List ℕ) → Relation

@@ -18,23 +18,23 @@ abbrev pub requests_file : List (List ℕ) → List ℕ
 requests_file files = file_of files 1
 
 -- for each request in its order a frame that it allows
-abbrev pub Gives : {A : Type 0} → (A → Frame → Type 0) → List A → Relation
-Gives Allows requests w status = FramesOf Allows requests w × (status ≡ Done)
+abbrev pub GivesFrames : {A : Type 0} → (A → Frame → Type 0) → List A → Relation
+GivesFrames Allows requests w status = FramesOf Allows requests w × (status ≡ Done)
 
 -- what is written for requests under the header of the square: for each in its order a frame that it allows, where
 -- all pass the test; else the first that doesn't is refused
-abbrev pub Answers : {A : Type 0} → (A → Bool) → (A → Frame → Type 0) → List A → Relation
-Answers test Allows requests w status =
-    MatchOption (failing_from test 0 requests) (Gives Allows requests w status)
+abbrev pub AnswersRequests : {A : Type 0} → (A → Bool) → (A → Frame → Type 0) → List A → Relation
+AnswersRequests test Allows requests w status =
+    MatchOption (failing_from test 0 requests) (GivesFrames Allows requests w status)
     (λ i. Refuses (BadRequest (At i)) w status)
 
 -- what is answered to requests over a square: that under its header, or the refusal of a square that has none
 abbrev pub Serves : {A : Type 0} → SquareShares → (A → Bool) → (Roots → A → Frame → Type 0) → List A → Relation
 Serves square test Allows requests w status =
-    ((header : Roots) × IsHeaderOf header square × Answers test (Allows header) requests w status)
+    ((header : Roots) × IsHeaderOf header square × AnswersRequests test (Allows header) requests w status)
     ⊎ (HasNoHeader square × Refuses (BadRequest NoHeader) w status)
 
 -- what was made serves a square under the square's header; nothing was where the square has none
-abbrev pub IsMade : {S : Type 0} → (S → SquareShares → Roots → Type 0) → SquareShares → Option S → Type 0
-IsMade Serves square None = HasNoHeader square
-IsMade Serves square (Some server) = (header : Roots) × IsHeaderOf header square × Serves server square header
+abbrev pub IsMadeServer : {S : Type 0} → (S → SquareShares → Roots → Type 0) → SquareShares → Option S → Type 0
+IsMadeServer Serves square None = HasNoHeader square
+IsMadeServer Serves square (Some server) = (header : Roots) × IsHeaderOf header square × Serves server square header

@@ -14,7 +14,7 @@ use Rattle.tx_list.specs.OfBytes.{IsOfBytes}
 use Rattle.tx_list.specs.Lists.{list_places, square_of_list}
 use Rattle.axis_roots.specs.Grids.{IsHeaderOf}
 use Rattle.blob_commit.specs.Proofs.{CommitParts}
-use Rattle.blob_commit.specs.Places.{CommitText, NamesClash}
+use Rattle.blob_commit.specs.Places.{CommitText, PlacesNameClash}
 use Rattle.da_wire.specs.declared.frames.Frame.TheVariants.{Commit}
 use Rattle.da_status.specs.declared.status.Status.{Status}
 use Rattle.da_status.specs.Outcome.{Relation}
@@ -52,7 +52,7 @@ pub record ProvesBlob (square : SquareShares) (place : ℕ) (one : NamedBytes) (
   pub own : IsHeaderOf header square
   pub proof : CommitParts
   pub proves : IsRangeProof square header place (share_count_of one) proof
-  pub states : (proof.commitment ≡ commitment_of one) ⊎ NamesClash (CommitText proof) square
+  pub states : (proof.commitment ≡ commitment_of one) ⊎ PlacesNameClash (CommitText proof) square
   pub writes : Writes (Commit proof) w status
 
 -- ---- places that are found

@@ -1,7 +1,7 @@
 -- transactions SQUARE: the list of transactions that a square is laid out of.
 use Rattle.std.specs.Prelude.{ℕ, List, MatchOption}
 use Rattle.square_layout.specs.Blocks.{SquareShares}
-use Rattle.tx_list.specs.Spelled.{spelled}
+use Rattle.tx_list.specs.Spelled.{spelled_list}
 use Rattle.tx_list.specs.BackRefusals.{back_list, back_refusal}
 use Rattle.da_wire.specs.declared.frames.Frame.TheVariants.{Transactions}
 use Rattle.da_wire.specs.Spelling.{spelling}
@@ -21,7 +21,7 @@ WritesList transactions w status =
 -- what transactions answers to a square: why it is laid out of no list, or the frame of its list
 abbrev pub Unlays : SquareShares → Relation
 Unlays square w status =
-    MatchOption (back_refusal square) (WritesList (spelled (back_list square)) w status)
+    MatchOption (back_refusal square) (WritesList (spelled_list (back_list square)) w status)
     (λ why. Refuses (BadRequest (NoList why)) w status)
 
 -- what transactions answers to a SQUARE that is a square

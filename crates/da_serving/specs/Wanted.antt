@@ -11,12 +11,12 @@ use Rattle.da_wire.specs.Values.{values_bytes}
 use Rattle.da_status.specs.declared.status.Status.TheVariants.{Done}
 use Rattle.da_status.specs.Outcome.{Relation}
 use Rattle.da_files.specs.Contents.{file_of}
-use Rattle.da_files.specs.Frames.{single, WritesText}
+use Rattle.da_files.specs.Frames.{single_file, WritesText}
 use Rattle.da_files.specs.Forms.{Over}
 
 -- the missing cells that a file is, or where it stops being a frame of them
 abbrev pub missing_in : List ℕ → Result CellList ℕ
-missing_in bytes = single missing_of (only_of bytes (missing_kind ∷ []))
+missing_in bytes = single_file missing_of (only_of bytes (missing_kind ∷ []))
 
 -- the requests for the samples of cells along an axis, in their order
 abbrev pub requests_bytes : Axis → List Cell → List ℕ

@@ -2,9 +2,9 @@
 
 ghost use Rattle.std.specs.Prelude.{◌≡◌, ◌≤◌, ◌*◌, ◌++◌, length, IfOk, OnOk, IsSome, None, Ok};
 ghost use Rattle.std.specs.List.{flat_map};
-ghost use Rattle.share_split.specs.Walks.{blobs_of};
+ghost use Rattle.share_split.specs.Walks.{blobs_joined};
 ghost use Rattle.square_layout.specs.Blocks.{BlockParts, IsBlock};
-ghost use Rattle.square_layout.specs.Layout.{in_order, square_of};
+ghost use Rattle.square_layout.specs.Layout.{in_order, block_square};
 ghost use Rattle.namespace_id.specs.Sizes.{share_size};
 ghost use Rattle.square_layout.specs.Refusals.{max_shares, layout_refusal};
 ghost use Rattle.blob_feed.specs.Feeds.{shares_found};
@@ -13,7 +13,7 @@ ghost use Rattle.da_wire.specs.Spelling.{spelling};
 ghost use Rattle.frame_payloads.specs.kinds.Block.{blob_bytes};
 ghost use Rattle.da_files.specs.Contents.{contents_of};
 ghost use Rattle.da_files.specs.Frames.{ReadsSingle};
-ghost use Rattle.da_serving.specs.Blobs.{is_compact, behind_compact, answer_shares, shares_of, shares_in, block_with, Joins, BlobsOf};
+ghost use Rattle.da_serving.specs.Blobs.{is_compact, behind_compact, answer_shares, frame_shares, shares_frame, block_with, JoinsShares, BlobsOf};
 ghost use Rattle.da_files.specs.Forms.{single_judged};
 ghost use Rattle.da_status.specs.Judging.{Judged};
 ghost use Rattle.da_status.specs.Outcome.{EndsAtOnce};
@@ -81,7 +81,7 @@ fn answer_shares(alloc: Global, answer: &NsAnswer) -> Result<Vec<Share>, NoMemor
 
 /// The square or the namespace answer that a file is.
 fn shares_in(alloc: Global, bytes: &[u8]) -> Result<Frame, Unread>
-    ensures read { ReadsSingle result (shares_in bytes.now) }
+    ensures read { ReadsSingle result (shares_frame bytes.now) }
     ensures spelled { IfOk result (λ frame. IsSome (spelling frame)) }
 {
     wire_laws();
@@ -110,7 +110,7 @@ fn block_frame(alloc: Global, blobs: Vec<Blob>) -> Frame
 /// write.
 fn give_blobs<O: Sink>(alloc: Global, shares: &[Share], out: &mut O) -> Status
     requires { length shares.now ≤ max_shares }
-    ensures { EndsAtOnce (Joins shares.now) (O.taken out.old) (O.taken out.new) (O.faults out.old)
+    ensures { EndsAtOnce (JoinsShares shares.now) (O.taken out.old) (O.taken out.new) (O.faults out.old)
         (O.faults out.new) (out.new ≡ out.old) result }
 {
     match join_blobs(alloc, shares) {
@@ -123,7 +123,7 @@ fn give_blobs<O: Sink>(alloc: Global, shares: &[Share], out: &mut O) -> Status
 /// Writes the frame of the blobs that the shares of a square or of a namespace answer are.
 fn give_of<O: Sink>(alloc: Global, frame: &Frame, out: &mut O) -> Status
     requires { IsSome (spelling frame.now) }
-    ensures { EndsAtOnce (Joins (shares_of frame.now)) (O.taken out.old) (O.taken out.new)
+    ensures { EndsAtOnce (JoinsShares (frame_shares frame.now)) (O.taken out.old) (O.taken out.new)
         (O.faults out.old) (O.faults out.new) (out.new ≡ out.old) result }
 {
     match frame {
@@ -139,7 +139,7 @@ fn give_of<O: Sink>(alloc: Global, frame: &Frame, out: &mut O) -> Status
 
 /// Answers the blobs in SHARES. All memory is taken before the write.
 pub fn execute<O: Sink>(alloc: Global, files: &[Vec<u8>], out: &mut O) -> Status
-    ensures { EndsAtOnce (Judged (single_judged shares_in (contents_of files.now))
+    ensures { EndsAtOnce (Judged (single_judged shares_frame (contents_of files.now))
         (BlobsOf (contents_of files.now))) (O.taken out.old) (O.taken out.new) (O.faults out.old)
         (O.faults out.new) (out.new ≡ out.old) result }
 {
@@ -153,7 +153,7 @@ pub fn execute<O: Sink>(alloc: Global, files: &[Vec<u8>], out: &mut O) -> Status
 /// What is read of the square of a block that isn't refused: exactly its blobs, with their signers, by ascending namespace.
 pub fn blobs_laws()
     ensures back { (block : BlockParts) → layout_refusal block ≡ None → IsBlock block →
-        blobs_of (behind_compact (square_of block).shares) ≡ Ok (in_order block.blobs) }
+        blobs_joined (behind_compact (block_square block).shares) ≡ Ok (in_order block.blobs) }
 {
     join_laws();
     name_laws();

@@ -3,7 +3,7 @@
 ghost use Rattle.std.specs.Prelude.{◌≡◌, IfOk};
 ghost use Rattle.tx_list.specs.Reads.{list_of};
 ghost use Rattle.tx_list.specs.Lists.{square_of_list};
-ghost use Rattle.tx_list.specs.Refusals.{Answers};
+ghost use Rattle.tx_list.specs.Refusals.{AnswersList};
 ghost use Rattle.da_files.specs.Contents.{contents_of};
 ghost use Rattle.da_serving.specs.Build.{Builds, list_refusal, BuildsList, BuildsEither, BuildOf};
 ghost use Rattle.da_files.specs.Forms.{single_judged};
@@ -33,7 +33,7 @@ fn build_square<O: Sink>(alloc: Global, block: &Block, out: &mut O) -> Status
 
 /// The square of a list of transactions, or the first check that fails.
 fn list_square(alloc: Global, transactions: Vec<Unit>) -> Result<Square, ListError>
-    ensures first { Answers result (list_refusal transactions.items) }
+    ensures first { AnswersList result (list_refusal transactions.items) }
     ensures square { IfOk result (λ square. square ≡ square_of_list (list_of transactions.items)) }
 {
     let list = read_list(alloc, transactions)?;

@@ -3,7 +3,7 @@
 ghost use Rattle.std.specs.Prelude.{◌≡◌, ◌≤◌, ◌++◌, length, None, IfOk, OnOk};
 ghost use Rattle.std.specs.List.{AllByRecursion};
 ghost use Rattle.square_layout.specs.Layout.{share_count_of};
-ghost use Rattle.square_layout.specs.Refusals.{max_shares, layout_refusal, Answers};
+ghost use Rattle.square_layout.specs.Refusals.{max_shares, layout_refusal, AnswersLaying};
 ghost use Rattle.tx_list.specs.Payments.{blobs_of};
 ghost use Rattle.tx_list.specs.Reads.{list_of};
 ghost use Rattle.tx_list.specs.Refusals as lists;
@@ -97,7 +97,7 @@ fn payment_lines(alloc: Global, payments: &[Payment]) -> Result<Vec<u8>, NoMemor
 
 /// Whether a block can be laid out, or the first check that fails. Its square is let go.
 fn judge(alloc: Global, block: &Block) -> Result<(), LayError>
-    ensures { Answers result (layout_refusal block.now) }
+    ensures { AnswersLaying result (layout_refusal block.now) }
 {
     let _square = lay(alloc, block)?;
     Ok(())

@@ -3,8 +3,8 @@
 ghost use Rattle.std.specs.Prelude.{◌≡◌, true, IfOk};
 ghost use Rattle.data_header.specs.Headers.{Roots};
 ghost use Rattle.square_layout.specs.Blocks.{SquareShares};
-ghost use Rattle.da_serving.specs.Serving.{IsMade};
-ghost use Rattle.da_serving.specs.Sample.{is_asked_inside, IsSample};
+ghost use Rattle.da_serving.specs.Serving.{IsMadeServer};
+ghost use Rattle.da_serving.specs.Sample.{is_asked_inside, IsServedSample};
 ghost use Rattle.da_serving.specs.Extension.{IsExtensionOf};
 
 use axis_roots::{LeftHalf, Message};
@@ -29,7 +29,7 @@ pub(crate) enum Extension {
 
 /// The whole extension of a square; nothing where the square has no header.
 fn whole(alloc: Global, square: Square) -> Result<Option<Extension>, NoMemory>
-    ensures { IfOk result (IsMade IsExtensionOf square) }
+    ensures { IfOk result (IsMadeServer IsExtensionOf square) }
 {
     serve_laws();
     match Held::of(alloc, square) {
@@ -41,7 +41,7 @@ fn whole(alloc: Global, square: Square) -> Result<Option<Extension>, NoMemory>
 
 /// The left half of it.
 fn left(alloc: Global, square: Square) -> Result<Option<Extension>, NoMemory>
-    ensures { IfOk result (IsMade IsExtensionOf square) }
+    ensures { IfOk result (IsMadeServer IsExtensionOf square) }
 {
     match LeftHalf::of(alloc, square) {
         Ok(Some(half)) => Ok(Some(Extension::Left(half))),
@@ -59,7 +59,7 @@ impl Extension {
         requests: &[u8],
         narrow: u16,
     ) -> Result<Option<Extension>, NoMemory>
-        ensures { IfOk result (IsMade IsExtensionOf square) }
+        ensures { IfOk result (IsMadeServer IsExtensionOf square) }
     {
         if square.k > narrow && requests.len() <= FEW {
             left(alloc, square)
@@ -73,7 +73,7 @@ impl Extension {
         requires { (square : SquareShares) × (header : Roots) × IsExtensionOf self.old square header
             × (is_asked_inside square asked ≡ true) }
         ensures sample { (square : SquareShares) (header : Roots) → IsExtensionOf self.old square header →
-            IsSample square header asked result }
+            IsServedSample square header asked result }
         ensures kept { self.new ≡ self.old }
     {
         match self {

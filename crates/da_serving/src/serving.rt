@@ -15,7 +15,7 @@ ghost use Rattle.da_files.specs.Forms.{requests_judged, Over};
 ghost use Rattle.da_files.specs.Frames.{square_in};
 ghost use Rattle.da_files.specs.Requests.{failing_from, IsNext};
 ghost use Rattle.da_serving.specs.Choices.{HasFrame};
-ghost use Rattle.da_serving.specs.Serving.{requests_file, IsMade, Serves};
+ghost use Rattle.da_serving.specs.Serving.{requests_file, IsMadeServer, Serves};
 ghost use Rattle.da_status.specs.Judging.{Judged};
 ghost use Rattle.da_status.specs.Outcome.{Ends};
 
@@ -61,7 +61,7 @@ pub(crate) trait Server: Drop {
 
     /// Holds a square for these requests; nothing where it has no header.
     fn hold(alloc: Global, square: Square, requests: &[u8]) -> Result<Option<Self>, NoMemory>
-        ensures { IfOk result (IsMade serves square) };
+        ensures { IfOk result (IsMadeServer serves square) };
 
     /// The frame that answers a request that passes.
     fn frame(&mut self, alloc: Global, request: Self::Request) -> Result<Frame, NoMemory>

@@ -3,7 +3,7 @@
 ghost use Rattle.std.specs.Prelude.{◌≡◌, ◌++◌, ◌∷◌, ℕ, List, length, true, Ok};
 ghost use Rattle.std.specs.List.{Contains};
 ghost use Rattle.share_split.specs.Blobs.{NamedBytes};
-ghost use Rattle.share_split.specs.Walks.{blobs_of};
+ghost use Rattle.share_split.specs.Walks.{blobs_joined};
 ghost use Rattle.square_layout.specs.Layout.{in_order, share_count_of};
 ghost use Rattle.tx_list.specs.Reads.{list_of};
 ghost use Rattle.blob_commit.specs.Proofs.{is_range};
@@ -41,7 +41,7 @@ pub fn stated_laws()
 
     // Behind the compact shares of the square exactly the blobs are read, with their signers, by ascending namespace.
     ensures blobs { (transactions : List (List ℕ)) → IsBuilt transactions →
-        blobs_of (behind_compact (built_square transactions).shares)
+        blobs_joined (behind_compact (built_square transactions).shares)
         ≡ Ok (in_order (built_blobs transactions)) }
 
     // What `find` answers to a commitment are the ranges of the blobs that have it, and no refusal of the square.

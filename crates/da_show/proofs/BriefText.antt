@@ -11,10 +11,10 @@ use Rattle.da_wire.specs.declared.frames.Frame.TheVariants as frames
 use Rattle.da_wire.specs.declared.briefs.Brief.{Brief}
 use Rattle.frame_payloads.specs.kinds.Names.{found_place, entry_place}
 use Rattle.da_wire.specs.Briefs.{brief_of}
-use Rattle.da_show.specs.Text.{found_line, entry_line, found_place_line, place_line, range_line, absence_line, names_lines, places_lines, names_line, brief_lines, joined, lines_of, text_of}
+use Rattle.da_show.specs.Text.{row_line, entry_line, found_place_line, place_line, range_line, absence_line, names_lines, places_lines, names_line, brief_lines, joined, lines_of, shown_text}
 
 -- where something is found in a row is the line of what is found
-found_place_is : (row : ℕ) (found : Found) → found_place_line row (found_place found) ≡ found_line row found
+found_place_is : (row : ℕ) (found : Found) → found_place_line row (found_place found) ≡ row_line row found
 unfolding range_line absence_line
 found_place_is row (Range start shares nodes) = refl
 found_place_is row (Absence pos leaf nodes) = refl
@@ -48,5 +48,5 @@ lines_are (frames.Commit proof) brief e = absurd cc
 lines_are (frames.Rooted proof) brief e = absurd cc
 
 -- the text of a value
-pub brief_text : (value : Frame) (brief : Brief) → brief_of value ≡ Some brief → joined (brief_lines brief) ≡ text_of value
+pub brief_text : (value : Frame) (brief : Brief) → brief_of value ≡ Some brief → joined (brief_lines brief) ≡ shown_text value
 brief_text value brief e = ap joined (lines_are value brief e)

@@ -31,8 +31,8 @@ use Rattle.da_wire.specs.declared.frames.Frame.TheVariants as frames
 use Rattle.da_wire.specs.declared.briefs.Brief.{Brief}
 use Rattle.da_wire.specs.Briefs.{brief_of}
 use Rattle.da_show.specs.Parts.{axis_word, name_word, digest_word, share_hash_word}
-use Rattle.da_show.specs.Json.{count, list_of, object_of, root_json, header_json, share_json, square_json, message_json, found_json, entry_json, names_json, cell_json, cell_of_json, claim_json, missing_json, clash_json, sample_json, request_json, length_json, signer_json, blob_json, block_json, commit_json, rooted_json, transactions_json, refusal_json, state_json, json_text}
-use Rattle.da_show.specs.JsonTexts.{quoted_axis, quoted_hex, quoted_name, items_from, list_text, root_text, share_text, range_text, absence_text, found_text, entry_text, found_place_text, place_text, pair_text, cell_text, cell_of_text, length_text, signer_text, blob_end, blob_text, header_end, header_text, square_end, square_text, place_front, share_end, message_end, message_text, names_end, names_text, places_text, claim_end, claim_text, missing_text, clash_text, sample_text, request_text, units_end, block_end, block_text, commit_end, commit_counts, commit_text, rooted_end, rooted_text, transactions_text, refusal_text, state_text, frame_text, brief_json}
+use Rattle.da_show.specs.Json.{count, data_list, object_of, root_json, header_json, share_json, square_json, message_json, found_json, entry_json, names_json, cell_json, cell_of_json, claim_json, missing_json, clash_json, sample_json, request_json, length_json, signer_json, blob_json, block_json, commit_json, rooted_json, transactions_json, refusal_json, state_json, json_text}
+use Rattle.da_show.specs.JsonTexts.{quoted_axis, quoted_hex, quoted_name, items_from, list_text, root_text, share_text, range_text, absence_text, found_text, entry_text, found_place_text, entry_place_text, pair_text, cell_text, cell_of_text, length_text, signer_text, blob_end, blob_text, header_end, header_text, square_end, square_text, place_front, share_end, message_end, message_text, names_end, names_text, places_text, claim_end, claim_text, missing_text, clash_text, sample_text, request_text, units_end, block_end, block_text, commit_end, commit_counts, commit_text, rooted_end, rooted_text, transactions_text, refusal_text, state_text, frame_text, brief_json}
 
 -- ---- lists
 
@@ -43,7 +43,7 @@ module _ {A B : Type 0} (turn : B → A) (text : A → List ℕ) (shown : B → 
   turned_items later (x ∷ xs) = ap₂ (λ (a b : List ℕ). comma_if later ++ (a ++ b)) (same x) (turned_items true xs)
 
   -- a list whose elements are turned
-  turned_list : (xs : List B) → list_text text (map turn xs) ≡ compact_text (list_of shown xs)
+  turned_list : (xs : List B) → list_text text (map turn xs) ≡ compact_text (data_list shown xs)
   turned_list xs = ap (λ (l : List ℕ). 91 ∷ l) (turned_items false xs)
 
 module _ {A : Type 0} (text : A → List ℕ) (shown : A → Data) (same : (x : A) → text x ≡ compact_text (shown x)) where
@@ -53,13 +53,13 @@ module _ {A : Type 0} (text : A → List ℕ) (shown : A → Data) (same : (x : 
   items_are later (x ∷ xs) = ap₂ (λ (a b : List ℕ). comma_if later ++ (a ++ b)) (same x) (items_are true xs)
 
   -- a list
-  list_is : (xs : List A) → list_text text xs ≡ compact_text (list_of shown xs)
+  list_is : (xs : List A) → list_text text xs ≡ compact_text (data_list shown xs)
   list_is xs = ap (λ (l : List ℕ). 91 ∷ l) (items_are false xs)
 
 -- ---- headers and squares
 
 -- roots
-roots_are : (roots : List Digest) → list_text root_text roots ≡ compact_text (list_of root_json roots)
+roots_are : (roots : List Digest) → list_text root_text roots ≡ compact_text (data_list root_json roots)
 unfolding quoted_hex
 roots_are roots = list_is root_text root_json (λ root. refl) roots
 
@@ -77,7 +77,7 @@ header_is header =
     (roots_are header.cols) (roots_are header.rows)
 
 -- the namespaces of shares
-shares_are : (shares : List Share) → list_text share_text shares ≡ compact_text (list_of share_json shares)
+shares_are : (shares : List Share) → list_text share_text shares ≡ compact_text (data_list share_json shares)
 unfolding quoted_name
 shares_are shares = list_is share_text share_json (λ share. refl) shares
 
@@ -136,11 +136,11 @@ unfolding pair_text
 cell_is cell = refl
 
 -- cells
-cells_are : (cells : List Cell) → list_text cell_text cells ≡ compact_text (list_of cell_json cells)
+cells_are : (cells : List Cell) → list_text cell_text cells ≡ compact_text (data_list cell_json cells)
 cells_are cells = list_is cell_text cell_json cell_is cells
 
 -- the cells of samples
-message_cells_are : (messages : List Message) → list_text cell_of_text messages ≡ compact_text (list_of cell_of_json messages)
+message_cells_are : (messages : List Message) → list_text cell_of_text messages ≡ compact_text (data_list cell_of_json messages)
 message_cells_are messages = list_is cell_of_text cell_of_json (λ m. cell_is m.cell) messages
 
 -- a fraud claim, by the text of its cells
@@ -151,7 +151,7 @@ claim_around axis cells index =
 
 -- its object, by its axis
 claim_object : (axis : Axis) (cells : List Message) (index : ℕ) (set : Option (List Digest))
-    → claim_around axis (compact_text (list_of cell_of_json cells)) index
+    → claim_around axis (compact_text (data_list cell_of_json cells)) index
     ≡ compact_text (claim_json (record { axis = axis; index = index; cells = cells; set = set }))
 unfolding escape_byte
 claim_object Row cells index set = refl
@@ -180,7 +180,7 @@ found_is row (Range start shares nodes) = refl
 found_is row (Absence pos leaf nodes) = refl
 
 -- the entries of an answer
-entries_are : (entries : List NsEntry) → list_text entry_text entries ≡ compact_text (list_of entry_json entries)
+entries_are : (entries : List NsEntry) → list_text entry_text entries ≡ compact_text (data_list entry_json entries)
 entries_are entries = list_is entry_text entry_json (λ entry. found_is entry.row entry.found) entries
 
 -- what is found in a row, by where it is
@@ -190,9 +190,9 @@ found_place_is row (Range start shares nodes) = refl
 found_place_is row (Absence pos leaf nodes) = refl
 
 -- the entries of an answer, by where they found something
-places_are : (entries : List NsEntry) → list_text place_text (map entry_place entries) ≡ compact_text (list_of entry_json entries)
+places_are : (entries : List NsEntry) → list_text entry_place_text (map entry_place entries) ≡ compact_text (data_list entry_json entries)
 places_are entries =
-    turned_list entry_place place_text entry_json (λ entry. found_place_is entry.row entry.found) entries
+    turned_list entry_place entry_place_text entry_json (λ entry. found_place_is entry.row entry.found) entries
 
 -- an answer, by the text of its entries
 abbrev names_around : List ℕ → Namespace → List ℕ
@@ -242,11 +242,11 @@ unfolding blob_text blob_end quoted_name
 blob_is blob = blob_object (length blob.bytes) (name_word blob.namespace) blob.signer
 
 -- blobs
-blobs_are : (blobs : List NamedBytes) → list_text blob_text blobs ≡ compact_text (list_of blob_json blobs)
+blobs_are : (blobs : List NamedBytes) → list_text blob_text blobs ≡ compact_text (data_list blob_json blobs)
 blobs_are blobs = list_is blob_text blob_json blob_is blobs
 
 -- the lengths of units
-lengths_are : (units : List (List ℕ)) → list_text length_text units ≡ compact_text (list_of length_json units)
+lengths_are : (units : List (List ℕ)) → list_text length_text units ≡ compact_text (data_list length_json units)
 lengths_are units = list_is length_text length_json (λ unit. refl) units
 
 -- a block, by the texts of its blobs, units of payments and units
@@ -260,8 +260,8 @@ block_is : (block : BlockParts) → block_text block ≡ compact_text (block_jso
 unfolding block_text block_end units_end escape_byte
 block_is block =
     let units : List ℕ = list_text length_text block.units in
-    let blobs : List ℕ = compact_text (list_of blob_json block.blobs) in
-    let pay : List ℕ = compact_text (list_of length_json block.pay_units) in
+    let blobs : List ℕ = compact_text (data_list blob_json block.blobs) in
+    let pay : List ℕ = compact_text (data_list length_json block.pay_units) in
     let width : ℕ = width_number block.width in
     ap₂ (λ (a b : List ℕ). block_around a b units width) (blobs_are block.blobs) (lengths_are block.pay_units)
     ∙ ap (λ (l : List ℕ). block_around blobs pay l width) (lengths_are block.units)

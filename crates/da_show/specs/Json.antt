@@ -35,8 +35,8 @@ abbrev pub count : ℕ → Data
 count n = number (unsigned n)
 
 -- the list of what each element of a list shows
-abbrev pub list_of : {A : Type 0} → (A → Data) → List A → Data
-list_of shown xs = array (items_of (map shown xs))
+abbrev pub data_list : {A : Type 0} → (A → Data) → List A → Data
+data_list shown xs = array (items_of (map shown xs))
 
 -- an object's members: keys with their values
 abbrev pub members_of : List (List ℕ × Data) → Members
@@ -56,10 +56,10 @@ root_json root = string (digest_word root)
 -- a header: its data root and its roots
 abbrev pub header_json : Roots → Data
 header_json header = object_of (
-    (codes "cols", list_of root_json header.cols)
+    (codes "cols", data_list root_json header.cols)
     ∷ (codes "k", count header.k) ∷ (codes "kind", string (codes "header"))
     ∷ (codes "root", string (encode_lower (data_root_of header)))
-    ∷ (codes "rows", list_of root_json header.rows) ∷ [])
+    ∷ (codes "rows", data_list root_json header.rows) ∷ [])
 
 -- a share: its namespace
 abbrev pub share_json : Share → Data
@@ -69,7 +69,7 @@ share_json share = string (share_name_word share)
 abbrev pub square_json : SquareShares → Data
 square_json square = object_of (
     (codes "k", count square.k) ∷ (codes "kind", string (codes "square"))
-    ∷ (codes "namespaces", list_of share_json square.shares) ∷ [])
+    ∷ (codes "namespaces", data_list share_json square.shares) ∷ [])
 
 -- a sample, with the hash of its share
 abbrev pub message_json : Message → Data
@@ -91,7 +91,7 @@ entry_json entry = found_json entry.row entry.found
 -- a namespace answer
 abbrev pub names_json : Namespace → List NsEntry → Data
 names_json name entries = object_of (
-    (codes "entries", list_of entry_json entries) ∷ (codes "kind", string (codes "namespace"))
+    (codes "entries", data_list entry_json entries) ∷ (codes "kind", string (codes "namespace"))
     ∷ (codes "namespace", string (name_word name)) ∷ [])
 
 -- a cell: its row and its column
@@ -105,13 +105,13 @@ cell_of_json m = cell_json m.cell
 -- a fraud claim, with the cells of its samples
 abbrev pub claim_json : ClaimParts → Data
 claim_json claim = object_of (
-    (codes "axis", string (axis_word claim.axis)) ∷ (codes "cells", list_of cell_of_json claim.cells)
+    (codes "axis", string (axis_word claim.axis)) ∷ (codes "cells", data_list cell_of_json claim.cells)
     ∷ (codes "index", count claim.index) ∷ (codes "kind", string (codes "fraud")) ∷ [])
 
 -- missing cells
 abbrev pub missing_json : CellList → Data
 missing_json cells = object_of (
-    (codes "cells", list_of cell_json cells.list) ∷ (codes "k", count cells.k)
+    (codes "cells", data_list cell_json cells.list) ∷ (codes "k", count cells.k)
     ∷ (codes "kind", string (codes "missing")) ∷ [])
 
 -- a collision: its two strings
@@ -149,9 +149,9 @@ blob_json blob = object_of (
 -- a block: what it asks for, and the lengths of what is in it
 abbrev pub block_json : BlockParts → Data
 block_json block = object_of (
-    (codes "blobs", list_of blob_json block.blobs) ∷ (codes "kind", string (codes "block"))
-    ∷ (codes "pay", list_of length_json block.pay_units)
-    ∷ (codes "units", list_of length_json block.units)
+    (codes "blobs", data_list blob_json block.blobs) ∷ (codes "kind", string (codes "block"))
+    ∷ (codes "pay", data_list length_json block.pay_units)
+    ∷ (codes "units", data_list length_json block.units)
     ∷ (codes "width", count (width_number block.width)) ∷ [])
 
 -- a commitment proof: its range, its commitment, and how many rows it has
@@ -172,7 +172,7 @@ rooted_json proof = object_of (
 -- transactions: their lengths
 abbrev pub transactions_json : List (List ℕ) → Data
 transactions_json units = object_of (
-    (codes "kind", string (codes "transactions")) ∷ (codes "lengths", list_of length_json units) ∷ [])
+    (codes "kind", string (codes "transactions")) ∷ (codes "lengths", data_list length_json units) ∷ [])
 
 -- a refusal: the number of the refused frame, and its reason
 abbrev pub refusal_json : Refusal → Data

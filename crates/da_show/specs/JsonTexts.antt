@@ -96,8 +96,8 @@ found_place_text row (places.Range start shares) = range_text row start shares
 found_place_text row (places.Absence pos) = absence_text row pos
 
 -- where an entry of a namespace answer found something
-abbrev pub place_text : EntryPlace → List ℕ
-place_text entry = found_place_text entry.row entry.found
+abbrev pub entry_place_text : EntryPlace → List ℕ
+entry_place_text entry = found_place_text entry.row entry.found
 
 -- a row and a column
 unfoldable pub pair_text : ℕ → ℕ → List ℕ
@@ -176,7 +176,7 @@ names_text name entries = codes "{\"entries\":" ++ (list_text entry_text entries
 
 -- a namespace answer, by where its entries found something
 unfoldable pub places_text : Namespace → List EntryPlace → List ℕ
-places_text name entries = codes "{\"entries\":" ++ (list_text place_text entries ++ names_end name)
+places_text name entries = codes "{\"entries\":" ++ (list_text entry_place_text entries ++ names_end name)
 
 -- a fraud claim from its index on
 unfoldable pub claim_end : ℕ → List ℕ

@@ -44,15 +44,15 @@ abbrev pub named : List ℕ → ℕ → List ℕ
 named name number = name ++ (codes "=" ++ decimal number)
 
 -- lines of the elements of a list, each with its number, counted from the first one's on
-abbrev pub numbered : {A : Type 0} → (ℕ → A → List ℕ) → ℕ → List A → List (List ℕ)
-numbered line_of first [] = []
-numbered line_of first (x ∷ xs) = line_of first x ∷ numbered line_of (first + 1) xs
+abbrev pub numbered_lines : {A : Type 0} → (ℕ → A → List ℕ) → ℕ → List A → List (List ℕ)
+numbered_lines line_of first [] = []
+numbered_lines line_of first (x ∷ xs) = line_of first x ∷ numbered_lines line_of (first + 1) xs
 
 -- ---- the lines of each kind
 
 -- a root with the word of its axis
-abbrev pub root_line : List ℕ → ℕ → Digest → List ℕ
-root_line axis i root = line axis (decimal i ∷ digest_word root ∷ [])
+abbrev pub axis_root_line : List ℕ → ℕ → Digest → List ℕ
+axis_root_line axis i root = line axis (decimal i ∷ digest_word root ∷ [])
 
 -- a header's own line: its data root
 abbrev pub header_line : Roots → List ℕ
@@ -63,7 +63,7 @@ header_line header =
 abbrev pub header_lines : Roots → List (List ℕ)
 header_lines header =
     header_line header
-    ∷ (numbered (root_line (codes "row")) 0 header.rows ++ numbered (root_line (codes "col")) 0 header.cols)
+    ∷ (numbered_lines (axis_root_line (codes "row")) 0 header.rows ++ numbered_lines (axis_root_line (codes "col")) 0 header.cols)
 
 -- a share: its number, its namespace and its info byte
 abbrev pub share_line : ℕ → Share → List ℕ
@@ -76,7 +76,7 @@ square_line square = line (codes "square") (named (codes "k") square.k ∷ [])
 
 -- a square: its shares
 abbrev pub square_lines : SquareShares → List (List ℕ)
-square_lines square = square_line square ∷ numbered share_line 0 square.shares
+square_lines square = square_line square ∷ numbered_lines share_line 0 square.shares
 
 -- a cell and an axis, as a part of a line
 unfoldable pub place : Cell → Axis → List ℕ
@@ -94,12 +94,12 @@ found_words (Range start shares nodes) = codes "range" ∷ decimal start ∷ dec
 found_words (Absence pos leaf nodes) = codes "absent" ∷ decimal pos ∷ []
 
 -- a row and what is found in it
-abbrev pub found_line : ℕ → Found → List ℕ
-found_line row found = line (codes "row") (decimal row ∷ found_words found)
+abbrev pub row_line : ℕ → Found → List ℕ
+row_line row found = line (codes "row") (decimal row ∷ found_words found)
 
 -- an entry of a namespace answer
 abbrev pub entry_line : NsEntry → List ℕ
-entry_line entry = found_line entry.row entry.found
+entry_line entry = row_line entry.row entry.found
 
 -- a range by its row, its start and how many shares it has
 unfoldable pub range_line : ℕ → ℕ → ℕ → List ℕ
@@ -179,8 +179,8 @@ signer_words None = []
 signer_words (Some signer) = codes "signer" ∷ encode_lower signer ∷ []
 
 -- a blob: its namespace, its length and its signer
-abbrev pub blob_line : NamedBytes → List ℕ
-blob_line blob =
+abbrev pub block_blob_line : NamedBytes → List ℕ
+block_blob_line blob =
     line (codes "blob") (name_word blob.namespace ∷ decimal (length blob.bytes) ∷ signer_words blob.signer)
 
 -- how many units, units of payments and blobs there are, as a part of a line
@@ -204,7 +204,7 @@ unit_lines block = map (unit_line (codes "unit")) block.units ++ map (unit_line 
 
 -- a block: the lengths of what is in it
 abbrev pub block_lines : BlockParts → List (List ℕ)
-block_lines block = block_line block ∷ (unit_lines block ++ map blob_line block.blobs)
+block_lines block = block_line block ∷ (unit_lines block ++ map block_blob_line block.blobs)
 
 -- a commitment proof: its width, its range, its commitment, and how many rows it has
 abbrev pub commit_line : CommitParts → List ℕ
@@ -280,5 +280,5 @@ joined [] = []
 joined (first ∷ later) = first ++ following later
 
 -- the text of a frame
-abbrev pub text_of : Frame → List ℕ
-text_of frame = joined (lines_of frame)
+abbrev pub shown_text : Frame → List ℕ
+shown_text frame = joined (lines_of frame)

@@ -4,7 +4,7 @@ ghost use Rattle.std.specs.Prelude.{◌≡◌, ◌++◌, Some, IfOk, OnOk};
 ghost use Rattle.std.specs.String.{string_bytes};
 ghost use Rattle.da_wire.specs.declared.frames.Frame.{Frame as FrameOf};
 ghost use Rattle.da_wire.specs.Briefs.{brief_of};
-ghost use Rattle.da_show.specs.Text.{joined, lines_of, brief_lines, text_of};
+ghost use Rattle.da_show.specs.Text.{joined, lines_of, brief_lines, shown_text};
 
 mod kinds;
 mod lines;
@@ -46,7 +46,7 @@ fn put_frame(alloc: Global, out: &mut String, frame: &Frame) -> Result<(), Alloc
 ///
 /// docs/FORMATS.md, "Text of frames".
 pub fn show(alloc: Global, frame: &Frame) -> Result<String, NoMemory>
-    ensures text { IfOk result (λ text. string_bytes text ≡ text_of frame.now) }
+    ensures text { IfOk result (λ text. string_bytes text ≡ shown_text frame.now) }
 {
     let mut out = String::new(alloc);
     match put_frame(alloc, &mut out, frame) {
@@ -82,7 +82,7 @@ pub fn put_brief(alloc: Global, out: &mut String, brief: &Brief) -> Result<(), N
     ensures lines { OnOk result (string_bytes out.new
         ≡ string_bytes out.old ++ joined (brief_lines brief.now)) }
     ensures text { (value : FrameOf) → brief_of value ≡ Some brief.now →
-        OnOk result (string_bytes out.new ≡ string_bytes out.old ++ text_of value) }
+        OnOk result (string_bytes out.new ≡ string_bytes out.old ++ shown_text value) }
 {
     match put_lines(alloc, out, brief) {
         Ok(()) => Ok(()),

@@ -8,8 +8,8 @@ use Rattle.da_io.specs.Faults.{count_on, CountsFault}
 use Rattle.da_io.specs.Sinks.{IsProperPrefix, AppendsPart, WritesAll}
 use Rattle.da_status.specs.declared.status.Status.{Status}
 use Rattle.da_status.specs.declared.status.Status.TheVariants.{WriteFault, BadInput, NoMemory}
-use Rattle.da_status.specs.Statuses.{Kind, request, output, memory, kind_of, Taken, complete, part, front, undefined, row_of, output_count, May, IsDecided}
-use Rattle.da_status.specs.Outcome.{Relation, Refuses, Outputs, IsTaken, LeavesBy, UntouchedBy, IsOwnBy, Ends, EndsAtOnce}
+use Rattle.da_status.specs.Statuses.{Kind, request, output, memory, status_kind, Taken, complete, part, front, undefined, row_of, output_count, May, DecidesKind}
+use Rattle.da_status.specs.Outcome.{Relation, Refuses, Outputs, IsTakenOutput, LeavesBy, UntouchedBy, IsOwnBy, Ends, EndsAtOnce}
 use Rattle.da_status.proofs.WriteLemmas.{Written, written_on, written_part}
 
 -- a command with a meaning that is another's
@@ -30,18 +30,18 @@ ends_refused i at old before Same same = record {
 
 -- what a command answers over files in their forms: its output, or that it refuses what they ask for
 abbrev pub IsAnswer : Kind → Type 0
-IsAnswer kind = May (row_of kind).in_form (IsDecided kind)
+IsAnswer kind = May (row_of kind).in_form (DecidesKind kind)
 
 -- a complete output is an answer
-pub answer_output : (status : Status) → kind_of status ≡ output → IsAnswer (kind_of status)
+pub answer_output : (status : Status) → status_kind status ≡ output → IsAnswer (status_kind status)
 answer_output status e = subst IsAnswer (sym e) tt
 
 -- the status of an answer
-pub status_answers : (status wanted : Status) → status ≡ wanted → IsAnswer (kind_of wanted) → IsAnswer (kind_of status)
-status_answers status wanted e h = subst (λ (s : Status). IsAnswer (kind_of s)) (sym e) h
+pub status_answers : (status wanted : Status) → status ≡ wanted → IsAnswer (status_kind wanted) → IsAnswer (status_kind status)
+status_answers status wanted e h = subst (λ (s : Status). IsAnswer (status_kind s)) (sym e) h
 
 -- what the files ask for is refused
-pub ends_request : (M : Relation) (old : Option (List ℕ)) (before : ℕ) (Same : Type 0) (status : Status) → kind_of status ≡ request → M [] status → Same
+pub ends_request : (M : Relation) (old : Option (List ℕ)) (before : ℕ) (Same : Type 0) (status : Status) → status_kind status ≡ request → M [] status → Same
     → Ends M old old before before Same status
 ends_request M old before Same status e meant same = record {
   leaves = subst (λ (k : Kind). LeavesBy k M old old status) (sym e) ([], meant, Appends-nil old);
@@ -52,7 +52,7 @@ ends_request M old before Same status e meant same = record {
 }
 
 -- a complete output was taken
-pub ends_output : (M : Relation) (w : List ℕ) (status : Status) (old new : Option (List ℕ)) (before now : ℕ) (Same : Type 0) → kind_of status ≡ output
+pub ends_output : (M : Relation) (w : List ℕ) (status : Status) (old new : Option (List ℕ)) (before now : ℕ) (Same : Type 0) → status_kind status ≡ output
     → M w status → Appends old new w → now ≡ before → (IsSome old ↔ IsSome new) → Ends M old new before now Same status
 ends_output M w status old new before now Same e meant taken counted told = record {
   leaves = subst (λ (k : Kind). LeavesBy k M old new status) (sym e) (w, meant, taken);
@@ -76,7 +76,7 @@ front_within M N taken h (inr o) = inr (o.0, o.1, h o.0 o.1 o.2, o.3)
 
 -- what is taken of outputs of a meaning is taken of those of a greater meaning
 pub takes_within : (taken : Taken) (M N : Relation) (old new : Option (List ℕ)) (status : Status) → ((w : List ℕ) (s : Status) → M w s → N w s)
-    → IsTaken taken M old new status → IsTaken taken N old new status
+    → IsTakenOutput taken M old new status → IsTakenOutput taken N old new status
 takes_within complete M N old new status h a = outputs_within M N old new status h a
 takes_within part M N old new status h a = (a.0, a.1, h a.0 a.1 a.2, a.3)
 takes_within front M N old new status h a = (a.0, a.1, front_within M N a.0 h a.2)
@@ -86,7 +86,7 @@ takes_within undefined M N old new status h a = tt
 pub ends_within : (M N : Relation) (old new : Option (List ℕ)) (before now : ℕ) (Same : Type 0) (status : Status)
     → ((w : List ℕ) (s : Status) → M w s → N w s) → Ends M old new before now Same status → Ends N old new before now Same status
 ends_within M N old new before now Same status h ends = record {
-  leaves = takes_within (row_of (kind_of status)).taken M N old new status h ends.leaves;
+  leaves = takes_within (row_of (status_kind status)).taken M N old new status h ends.leaves;
   faults = ends.faults;
   told = ends.told;
   untouched = ends.untouched;
@@ -154,15 +154,15 @@ memory_output : memory ≡ output → ⊥
 memory_output e = cc
 
 -- a complete output was taken
-pub once_output : (M : Relation) (old new : Option (List ℕ)) (before now : ℕ) (Same : Type 0) (status : Status) → kind_of status ≡ output
+pub once_output : (M : Relation) (old new : Option (List ℕ)) (before now : ℕ) (Same : Type 0) (status : Status) → status_kind status ≡ output
     → Ends M old new before now Same status → EndsAtOnce M old new before now Same status
 once_output M old new before now Same status is ends = record {
   ends = ends;
-  late = λ e. absurd (memory_output (sym (ap kind_of e) ∙ is));
+  late = λ e. absurd (memory_output (sym (ap status_kind e) ∙ is));
 }
 
 -- what the files ask for is refused
-pub once_request : (M : Relation) (old : Option (List ℕ)) (before : ℕ) (Same : Type 0) (status : Status) → kind_of status ≡ request → M [] status → Same
+pub once_request : (M : Relation) (old : Option (List ℕ)) (before : ℕ) (Same : Type 0) (status : Status) → status_kind status ≡ request → M [] status → Same
     → EndsAtOnce M old old before before Same status
 once_request M old before Same status e meant same = record {
   ends = ends_request M old before Same status e meant same;

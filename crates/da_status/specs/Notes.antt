@@ -22,15 +22,15 @@ use Rattle.da_status.specs.declared.status.Status.{Status}
 use Rattle.da_status.specs.declared.status.Status.TheVariants.{Done, Usage, PickFault, ReadFault, WriteFault, NoMemory, BadInput, TooLong, BadBlock, BadList, BadRequest, Fraud, Missing, Clash, Refused, Waiting}
 
 -- the numbers of the refusals of a namespace
-abbrev pub refusal_number : NsError → ℕ
-refusal_number Length = 1
-refusal_number Version = 2
-refusal_number Prefix = 3
-refusal_number Reserved = 4
+abbrev pub ns_refusal_number : NsError → ℕ
+ns_refusal_number Length = 1
+ns_refusal_number Version = 2
+ns_refusal_number Prefix = 3
+ns_refusal_number Reserved = 4
 
 -- why a block can't be laid out: the number of the refusal, and what it tells
 abbrev pub block_note : LayError → List ℕ
-block_note (lay.BadBlob i why) = codes "1 " ++ decimal i ++ codes " " ++ decimal (refusal_number why)
+block_note (lay.BadBlob i why) = codes "1 " ++ decimal i ++ codes " " ++ decimal (ns_refusal_number why)
 block_note (lay.EmptyBlob i) = codes "2 " ++ decimal i
 block_note (lay.TooLarge needed) = codes "3 " ++ decimal needed
 block_note (lay.WidthTooSmall needed) = codes "4 " ++ decimal needed
@@ -46,7 +46,7 @@ two_numbers i j = decimal i ++ codes " " ++ decimal j
 abbrev pub list_note : ListError → List ℕ
 list_note (list.Behind i) = codes "6 " ++ decimal i
 list_note (list.NoBlobs i) = codes "7 " ++ decimal i
-list_note (list.BadBlob i j why) = codes "8 " ++ two_numbers i j ++ codes " " ++ decimal (refusal_number why)
+list_note (list.BadBlob i j why) = codes "8 " ++ two_numbers i j ++ codes " " ++ decimal (ns_refusal_number why)
 list_note (list.BadVersion i j) = codes "9 " ++ two_numbers i j
 list_note (list.NoBytes i j) = codes "10 " ++ two_numbers i j
 list_note (list.TooLarge needed) = codes "3 " ++ decimal needed

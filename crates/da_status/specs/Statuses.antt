@@ -5,23 +5,23 @@ use Rattle.da_status.specs.declared.status.Status.{Status}
 use Rattle.da_status.specs.declared.status.Status.TheVariants.{Done, Usage, PickFault, ReadFault, WriteFault, NoMemory, BadInput, TooLong, BadBlock, BadList, BadRequest, Fraud, Missing, Clash, Refused, Waiting}
 
 -- the number that the program ends with
-abbrev pub number_of : Status → ℕ
-number_of Done = 0
-number_of Usage = 1
-number_of (PickFault i) = 2
-number_of (ReadFault i) = 3
-number_of WriteFault = 4
-number_of NoMemory = 5
-number_of (BadInput i at) = 6
-number_of (TooLong i) = 7
-number_of (BadBlock why) = 8
-number_of (BadList why) = 8
-number_of (BadRequest why) = 9
-number_of (Fraud axis i) = 10
-number_of (Missing cells lies) = 11
-number_of Clash = 12
-number_of Refused = 13
-number_of (Waiting cells) = 14
+abbrev pub status_number : Status → ℕ
+status_number Done = 0
+status_number Usage = 1
+status_number (PickFault i) = 2
+status_number (ReadFault i) = 3
+status_number WriteFault = 4
+status_number NoMemory = 5
+status_number (BadInput i at) = 6
+status_number (TooLong i) = 7
+status_number (BadBlock why) = 8
+status_number (BadList why) = 8
+status_number (BadRequest why) = 9
+status_number (Fraud axis i) = 10
+status_number (Missing cells lies) = 11
+status_number Clash = 12
+status_number Refused = 13
+status_number (Waiting cells) = 14
 
 -- the kinds of statuses, by the step of a run that decides: the words, a failed pick or read, an excess of
 -- length, a file's form, what the files ask for, out of memory, a failed write, the complete output
@@ -36,23 +36,23 @@ pub data Kind : Type 0 where
   output : Kind
 
 -- the kind of a status
-abbrev pub kind_of : Status → Kind
-kind_of Done = output
-kind_of Usage = usage
-kind_of (PickFault i) = fault
-kind_of (ReadFault i) = fault
-kind_of WriteFault = write
-kind_of NoMemory = memory
-kind_of (BadInput i at) = form
-kind_of (TooLong i) = excess
-kind_of (BadBlock why) = request
-kind_of (BadList why) = request
-kind_of (BadRequest why) = request
-kind_of (Fraud axis i) = output
-kind_of (Missing cells lies) = output
-kind_of Clash = output
-kind_of Refused = output
-kind_of (Waiting cells) = output
+abbrev pub status_kind : Status → Kind
+status_kind Done = output
+status_kind Usage = usage
+status_kind (PickFault i) = fault
+status_kind (ReadFault i) = fault
+status_kind WriteFault = write
+status_kind NoMemory = memory
+status_kind (BadInput i at) = form
+status_kind (TooLong i) = excess
+status_kind (BadBlock why) = request
+status_kind (BadList why) = request
+status_kind (BadRequest why) = request
+status_kind (Fraud axis i) = output
+status_kind (Missing cells lies) = output
+status_kind Clash = output
+status_kind Refused = output
+status_kind (Waiting cells) = output
 
 -- ---- the table of kinds
 
@@ -133,5 +133,5 @@ IsDefined front = ⊥
 IsDefined undefined = ⊥
 
 -- the words and files decide on a status of this kind
-abbrev pub IsDecided : Kind → Type 0
-IsDecided kind = IsDefined (row_of kind).taken
+abbrev pub DecidesKind : Kind → Type 0
+DecidesKind kind = IsDefined (row_of kind).taken

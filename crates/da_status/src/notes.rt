@@ -1,7 +1,7 @@
 //! The line that goes with a status.
 
 ghost use Rattle.std.specs.Prelude.{◌≡◌, ◌+◌, ◌≤◌, ◌++◌, length, decimal};
-ghost use Rattle.da_status.specs.Notes.{refusal_number, block_note, two_numbers, list_note, join_number, join_share, back_note, axis_note, note_of, Notes};
+ghost use Rattle.da_status.specs.Notes.{ns_refusal_number, block_note, two_numbers, list_note, join_number, join_share, back_note, axis_note, note_of, Notes};
 
 use crate::line::Line;
 use crate::status::{Asked, Status};
@@ -25,7 +25,7 @@ pub fn around(line: &mut Line, front: &[u8], number: u64, back: &[u8])
 
 /// The number of a refusal of a namespace.
 fn refusal_number(why: NsError) -> u64
-    ensures { result ≡ refusal_number why }
+    ensures { result ≡ ns_refusal_number why }
 {
     match why {
         NsError::Length => 1,

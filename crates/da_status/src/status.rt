@@ -1,7 +1,7 @@
 //! How a run ends.
 
 ghost use Rattle.std.specs.Prelude.{◌≡◌};
-ghost use Rattle.da_status.specs.Statuses.{number_of};
+ghost use Rattle.da_status.specs.Statuses.{status_number};
 
 use namespace_id::Axis;
 use share_split::JoinError;
@@ -76,7 +76,7 @@ pub enum Status {
 impl Status {
     /// The number that the program ends with.
     pub fn number(self) -> u8
-        ensures { result ≡ number_of self }
+        ensures { result ≡ status_number self }
     {
         match self {
             Status::Done => 0,

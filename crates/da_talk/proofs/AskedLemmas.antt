@@ -8,7 +8,7 @@ use Rattle.namespace_id.specs.declared.cells.Axis.TheVariants.{Row, Col}
 use Rattle.namespace_id.specs.declared.cells.Cell.{Cell}
 use Rattle.namespace_id.specs.declared.namespaces.Namespace.{Namespace}
 use Rattle.namespace_id.specs.Sizes.{namespace_size}
-use Rattle.frame_fields.specs.Fields.{number_at, cell_at, axis_at}
+use Rattle.frame_fields.specs.Fields.{big_endian_at, cell_at, axis_at}
 use Rattle.frame_fields.proofs.StepLemmas.{bind_some}
 use Rattle.frame_payloads.specs.kinds.Requests.{sample_at, request_at}
 use Rattle.da_wire.specs.Spelling.{sample_kind, request_kind}
@@ -24,7 +24,7 @@ none_or true x y e = absurd cc
 none_or false x y e = (refl, cc)
 
 -- a number takes two bytes
-number_long : (bytes : List ℕ) (x : ℕ × List ℕ) → number_at w16 bytes ≡ Some x → length bytes ≡ 2 + length x.1
+number_long : (bytes : List ℕ) (x : ℕ × List ℕ) → big_endian_at w16 bytes ≡ Some x → length bytes ≡ 2 + length x.1
 number_long bytes x e =
     let is = none_or (ltb (length bytes) 2) _ x e in
     omega (arith, ltb-false (length bytes) 2 is.0, ap (λ (y : ℕ × List ℕ). length y.1) is.1, length-drop 2 bytes)
@@ -33,8 +33,8 @@ number_long bytes x e =
 cell_long : (bytes : List ℕ) (x : Cell × List ℕ) → cell_at bytes ≡ Some x → length bytes ≡ 4 + length x.1
 unfolding cell_at
 cell_long bytes x e =
-    let row = bind_some (number_at w16 bytes) _ x e in
-    let col = bind_some (number_at w16 row.0.1) _ x row.2 in
+    let row = bind_some (big_endian_at w16 bytes) _ x e in
+    let col = bind_some (big_endian_at w16 row.0.1) _ x row.2 in
     let one : ◌≡◌ {A = Option (Cell × List ℕ)} (Some (record { row = row.0.0; col = col.0.0 }, col.0.1)) (Some x) = col.2 in
     let same : (record { row = row.0.0; col = col.0.0 }, col.0.1) ≡ x = cc in
     omega (arith, number_long bytes row.0 row.1, number_long row.0.1 col.0 col.1, ap (λ (y : Cell × List ℕ). length y.1) same)

@@ -6,7 +6,7 @@ use Rattle.std.proofs.KnownBytes.{Appends-nil, Appends-trans, Consumes-nil, Cons
 use Rattle.da_io.specs.Faults.{max_count, count_on}
 use Rattle.da_io.specs.Sinks.{IsProperPrefix}
 use Rattle.da_talk.specs.declared.line.Line as line
-use Rattle.da_talk.specs.Events.{Event, heard, said, heard_by, said_by, heard_in, said_in, Grows, Gives}
+use Rattle.da_talk.specs.Events.{Event, heard, said, heard_by, said_by, heard_in, said_in, Grows, GivesBytes}
 use Rattle.da_talk.specs.Talks.{Does}
 use Rattle.da_talk.specs.Steps.{Waits}
 
@@ -75,7 +75,7 @@ does_heard l old new bytes grows rest taken given stays = record {
 
 -- saying is one event
 does_part : {L T E : Type 0} (l : line.Ghosts L) → IsLine l → (old new : L) (bytes : List ℕ) (result : Result T E)
-    → (g : Gives (l.events old) (l.events new) (l.rest old) (l.rest new) (l.taken old) (l.taken new) bytes result)
+    → (g : GivesBytes (l.events old) (l.events new) (l.rest old) (l.rest new) (l.taken old) (l.taken new) bytes result)
     → l.given new ≡ l.given old → l.stays old new → Does l old new (said g.part ∷ [])
 does_part l is old new bytes result g given stays = record {
   grows = g.grows;
@@ -87,14 +87,14 @@ does_part l is old new bytes result g given stays = record {
 
 -- all of it was said
 pub does_whole : {L T E : Type 0} (l : line.Ghosts L) → IsLine l → (old new : L) (bytes text : List ℕ) (x : T)
-    → Gives {T = T} {E = E} (l.events old) (l.events new) (l.rest old) (l.rest new) (l.taken old) (l.taken new) bytes (Ok x)
+    → GivesBytes {T = T} {E = E} (l.events old) (l.events new) (l.rest old) (l.rest new) (l.taken old) (l.taken new) bytes (Ok x)
     → l.given new ≡ l.given old → l.stays old new → bytes ≡ text → Does l old new (said text ∷ [])
 does_whole {L} {T} {E} l is old new bytes text x g given stays same =
     subst (λ (b : List ℕ). Does l old new (said b ∷ [])) (g.is ∙ same) (does_part {L = L} {T = T} {E = E} l is old new bytes (Ok x) g given stays)
 
 -- a part of it was said
 pub does_some : {L T E : Type 0} (l : line.Ghosts L) → IsLine l → (old new : L) (bytes text : List ℕ) (why : E)
-    → Gives {T = T} {E = E} (l.events old) (l.events new) (l.rest old) (l.rest new) (l.taken old) (l.taken new) bytes (Err why)
+    → GivesBytes {T = T} {E = E} (l.events old) (l.events new) (l.rest old) (l.rest new) (l.taken old) (l.taken new) bytes (Err why)
     → l.given new ≡ l.given old → l.stays old new → bytes ≡ text → (part : List ℕ) × IsProperPrefix part text × Does l old new (said part ∷ [])
 does_some {L} {T} {E} l is old new bytes text why g given stays same =
     (g.part, subst (IsProperPrefix g.part) same g.is, does_part {L = L} {T = T} {E = E} l is old new bytes (Err why) g given stays)

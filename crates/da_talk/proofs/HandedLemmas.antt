@@ -11,13 +11,13 @@ use Rattle.namespace_id.specs.declared.digests.Digest.{Digest}
 use Rattle.namespace_id.specs.Shares.{share_of}
 use Rattle.namespace_id.specs.Sizes.{share_size, most_depth}
 use Rattle.axis_roots.specs.declared.message.messages.Message.{Message}
-use Rattle.frame_fields.specs.Fields.{◌>>=◌, number_at, byte_at, string_at, split_into, digest, digests_at, axis_at, cell_at, path_at}
+use Rattle.frame_fields.specs.Fields.{◌>>=◌, big_endian_at, byte_at, string_at, split_into, digest, digests_at, axis_at, cell_at, path_at}
 use Rattle.frame_fields.specs.Messages.{message_front, message_at}
 use Rattle.frame_payloads.specs.kinds.Message.{most_message}
 use Rattle.frame_payloads.proofs.Fields.Readers.{bind_some, if_false, if_true}
 use Rattle.da_wire.specs.Spelling.{message_kind, state_kind}
 use Rattle.da_wire.specs.Reading.{Raw}
-use Rattle.da_wire.specs.Frames.{message_in}
+use Rattle.da_wire.specs.Frames.{raw_message}
 use Rattle.da_talk.specs.Handed.{if_within, asks_state}
 
 -- ---- what was handed
@@ -33,7 +33,7 @@ handed_none longest raw e = leb-false (length raw.payload) longest (long_by (leb
 -- ---- the lengths of what is read
 
 -- a number of two bytes
-number_long : (bytes : List ℕ) (r : ℕ × List ℕ) → number_at w16 bytes ≡ Some r → length bytes ≡ 2 + length r.1
+number_long : (bytes : List ℕ) (r : ℕ × List ℕ) → big_endian_at w16 bytes ≡ Some r → length bytes ≡ 2 + length r.1
 number_long bytes r e =
     let f = if_false (ltb (length bytes) 2) (Some (from_be_bytes w16 (take 2 bytes), drop 2 bytes)) r e in
     let rest : length (drop 2 bytes) ≡ length r.1 = ap (λ (x : ℕ × List ℕ). length x.1) (same_Some _ r f.1) in
@@ -44,8 +44,8 @@ cell_long : (bytes : List ℕ) (r : Cell × List ℕ) → cell_at bytes ≡ Some
 unfolding cell_at
 cell_long bytes r e =
     let cell : ℕ → ℕ × List ℕ → Option (Cell × List ℕ) = λ row col. Some (record { row = row; col = col.0 }, col.1) in
-    let row = bind_some (number_at w16 bytes) (λ row. number_at w16 row.1 >>= cell row.0) r e in
-    let col = bind_some (number_at w16 row.0.1) (cell row.0.0) r row.2 in
+    let row = bind_some (big_endian_at w16 bytes) (λ row. big_endian_at w16 row.1 >>= cell row.0) r e in
+    let col = bind_some (big_endian_at w16 row.0.1) (cell row.0.0) r row.2 in
     let rest : length col.0.1 ≡ length r.1 = ap (λ (x : Cell × List ℕ). length x.1) (same_Some _ r col.2) in
     omega (arith, number_long bytes row.0 row.1, number_long row.0.1 col.0 col.1, rest)
 
@@ -145,7 +145,7 @@ unread : (test : Bool) (o : Option Message) → o ≡ None → cond test o None 
 unread true o none = none
 unread false o none = refl
 
-pub no_sample : (longest : ℕ) (raw : Raw) → most_message ≤ longest → None ≡ if_within longest raw → None ≡ message_in raw
+pub no_sample : (longest : ℕ) (raw : Raw) → most_message ≤ longest → None ≡ if_within longest raw → None ≡ raw_message raw
 no_sample longest raw room e =
     let long : most_message < length raw.payload = omega (arith, room, handed_none longest raw e) in
     sym (unread (raw.kind == message_kind) (message_at raw.payload) (none_by raw.payload (message_at raw.payload) refl long))

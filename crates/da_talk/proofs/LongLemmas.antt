@@ -9,7 +9,7 @@ use Rattle.da_wire.specs.declared.frames.FrameError.{FrameError}
 use Rattle.da_wire.specs.declared.frames.FrameError.TheVariants.{Truncated, TooLong}
 use Rattle.da_wire.specs.Reading.{promised, raw_of}
 use Rattle.da_wire.specs.Frames.{frames_of, bad_frame}
-use Rattle.da_wire.specs.Streams.{err_of, refusal_at, first_refusal, offset_of}
+use Rattle.da_wire.specs.Streams.{err_of, refusal_at, why_no_frame, offset_of}
 use Rattle.da_wire.specs.Laws.{BadFrameIsFirst, FilesAreFrames}
 use Rattle.da_wire.proofs.RawLemmas.{promised-take, raw_long}
 use Rattle.da_wire.proofs.StreamLemmas.{reached_refusal}
@@ -46,13 +46,13 @@ refused_at : (bytes : List ℕ) (stop : Option ℕ) (why : FrameError) → bad_f
 refused_at bytes None why is e = absurd (none-some why e)
 refused_at bytes (Some at) why is e = (at, is, err_some (raw_of at (drop at bytes)) why e)
 
-pub refused_of : (bytes : List ℕ) (why : FrameError) → first_refusal bytes ≡ Some why
+pub refused_of : (bytes : List ℕ) (why : FrameError) → why_no_frame bytes ≡ Some why
     → (at : ℕ) × (bad_frame bytes ≡ Some at) × (raw_of at (drop at bytes) ≡ Err why)
 refused_of bytes why e = refused_at bytes (bad_frame bytes) why refl e
 
 -- where bytes are over, the frame under way is too long or cut short
-pub ends_bad : (bytes : List ℕ) (why : FrameError) → first_refusal bytes ≡ Some why
-    → (first_refusal bytes ≡ Some (TooLong (offset_of why))) ⊎ (first_refusal bytes ≡ Some (Truncated (offset_of why)))
+pub ends_bad : (bytes : List ℕ) (why : FrameError) → why_no_frame bytes ≡ Some why
+    → (why_no_frame bytes ≡ Some (TooLong (offset_of why))) ⊎ (why_no_frame bytes ≡ Some (Truncated (offset_of why)))
 ends_bad bytes why e =
     let found = refused_of bytes why e in
     let at : ℕ = found.0 in
@@ -69,8 +69,8 @@ promised_stays : (bytes more : List ℕ) → 5 ≤ length bytes → promised (by
 promised_stays bytes more h = sym (promised-take (length bytes) (bytes ++ more) h) ∙ ap promised (take-append_seam bytes more)
 
 -- a frame that states a length above the limit does so whatever bytes follow, and no frame comes after it
-pub long_stays : BadFrameIsFirst → FilesAreFrames → (bytes more : List ℕ) (at : ℕ) → AreBytes bytes → first_refusal bytes ≡ Some (TooLong at)
-    → (first_refusal (bytes ++ more) ≡ Some (TooLong at)) × (frames_of (bytes ++ more) ≡ frames_of bytes)
+pub long_stays : BadFrameIsFirst → FilesAreFrames → (bytes more : List ℕ) (at : ℕ) → AreBytes bytes → why_no_frame bytes ≡ Some (TooLong at)
+    → (why_no_frame (bytes ++ more) ≡ Some (TooLong at)) × (frames_of (bytes ++ more) ≡ frames_of bytes)
 long_stays is_first are_frames bytes more at fits e =
     let found = refused_of bytes (TooLong at) e in
     let here : ℕ = found.0 in

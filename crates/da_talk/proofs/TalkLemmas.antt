@@ -11,10 +11,10 @@ use Rattle.da_talk.specs.declared.ended.Ended.TheVariants as ended
 use Rattle.da_talk.specs.declared.talk_end.TalkEnd.{TalkEnd}
 use Rattle.da_talk.specs.declared.talk_end.TalkEnd.TheVariants.{Over, Decided, Bad, Unfit, ReadFailed, WriteFailed, TooLong, NoMemory}
 use Rattle.da_talk.specs.Events.{heard_in, said_in}
-use Rattle.da_talk.specs.Replies.{reply_to, replies_from, due}
+use Rattle.da_talk.specs.Replies.{held_reply, replies_from, due}
 use Rattle.da_talk.specs.Talks.{Begins, EndsTalk, HasTalked, last_wait, read_count, write_count}
 use Rattle.da_talk.specs.Told.{IsTold, begun, told, IsDue, words, reply, verdict, last, HasTold, last_heard, hear_count, say_count}
-use Rattle.da_talk.specs.Steps.{IsLeft, IsPlain, EndsAs}
+use Rattle.da_talk.specs.Steps.{IsLeft, IsPlain, IsToldAs}
 use Rattle.da_talk.specs.contracts.holding.HeldTalker.TheImpl.{ghosts}
 
 -- ---- what is due
@@ -135,7 +135,7 @@ module _ {T : Type 0} (t : talker.Ghosts T) (first : T) (answer : ℕ → Raw �
         ) s.end.many
 
     -- however it ends
-    pub talked_as : (why : TalkEnd) (end : Ended) → HasTold l t old new first now why → EndsAs why end → HasTalked l old new (due answer) end
+    pub talked_as : (why : TalkEnd) (end : Ended) → HasTold l t old new first now why → IsToldAs why end → HasTalked l old new (due answer) end
     talked_as Over end s so = subst (HasTalked l old new (due answer)) (sym so) (talked_over s)
     talked_as Decided end s so = absurd so
     talked_as (Bad at) end s so = subst (HasTalked l old new (due answer)) (sym so) (talked_bad at s)
@@ -157,7 +157,7 @@ module _ {T : Type 0} (t : talker.Ghosts T) (first : T) (answer : ℕ → Raw �
     is_plain NoMemory s = is.takes s.end.takes
 
 -- which calls failed
-pub failed_as : (why : TalkEnd) (end : Ended) → EndsAs why end → (last_heard why ≡ last_wait end) × (hear_count why ≡ read_count end) × (say_count why ≡ write_count end)
+pub failed_as : (why : TalkEnd) (end : Ended) → IsToldAs why end → (last_heard why ≡ last_wait end) × (hear_count why ≡ read_count end) × (say_count why ≡ write_count end)
 failed_as Over end so = (sym (ap last_wait so), sym (ap read_count so), sym (ap write_count so))
 failed_as Decided end so = absurd so
 failed_as (Bad at) end so = (sym (ap last_wait so), sym (ap read_count so), sym (ap write_count so))
@@ -168,7 +168,7 @@ failed_as TooLong end so = (sym (ap last_wait so), sym (ap read_count so), sym (
 failed_as NoMemory end so = absurd so
 
 -- a held square replies so
-pub held_replies : (held : Held) → IsReplier ghosts held (reply_to held)
+pub held_replies : (held : Held) → IsReplier ghosts held (held_reply held)
 held_replies held = record {
   begins = λ text is. is;
   replies = λ frames f text is. is;

@@ -17,7 +17,7 @@ use Rattle.da_wire.specs.Reading.{Raw, raw_of, raw_seen, ReadsAt}
 use Rattle.da_wire.specs.Walks.{walk_from, stop_from}
 use Rattle.da_wire.specs.Frames.{ok_of, frames_of, bad_frame, frames_bytes}
 use Rattle.da_wire.specs.StreamParts.{StreamParts}
-use Rattle.da_wire.specs.Streams.{StandsFor, IsPush, FramesStay, first_refusal}
+use Rattle.da_wire.specs.Streams.{StreamStands, IsPush, FramesStay, why_no_frame}
 use Rattle.da_wire.specs.Laws.{BadFrameIsFirst, FilesAreFrames, FramesAreTheFile, RawIsFrame}
 use Rattle.da_talk.specs.declared.line.Line as line
 use Rattle.da_talk.specs.declared.talker.Talker as talker
@@ -116,7 +116,7 @@ module _ {L T : Type 0} (l : line.Ghosts L) (t : talker.Ghosts T) where
   -- ---- a talk begins
 
   -- the first words were said, and nothing was heard
-  pub telling_none : (old now : L) (first state : T) (frames : Frames) (kept text : List ℕ) → StandsFor frames.stream [] → frames.start ≡ 0 → frames.count ≡ 0 → kept ≡ []
+  pub telling_none : (old now : L) (first state : T) (frames : Frames) (kept text : List ℕ) → StreamStands frames.stream [] → frames.start ≡ 0 → frames.count ≡ 0 → kept ≡ []
       → t.led first state [] → t.begins first text → Does l old now (spoken text) → IsTelling l t old now first state frames kept []
   unfolding walk_from stop_from
   telling_none old now first state frames kept text stands start count none led begins did = record {
@@ -202,7 +202,7 @@ module _ {L T : Type 0} (l : line.Ghosts L) (t : talker.Ghosts T) where
     keeps_here now_kept e = e ∙ ap (λ (b : List ℕ). take frames.size (b ++ take n rest)) s.keeps ∙ kept_more frames.size s.under (take n rest)
 
     -- a push ended no frame
-    pub telling_more : (after : Frames) (now_kept : List ℕ) → StandsFor after.stream here → IsPush s.taken rest n pushed.More → after.start ≡ frames.start → after.count ≡ frames.count
+    pub telling_more : (after : Frames) (now_kept : List ℕ) → StreamStands after.stream here → IsPush s.taken rest n pushed.More → after.start ≡ frames.start → after.count ≡ frames.count
         → after.size ≡ frames.size → now_kept ≡ take frames.size (kept ++ take n rest) → IsTelling l t old now first state after now_kept (drop n rest)
     telling_more after now_kept stands push start count size e = record {
       events = s.events;
@@ -222,16 +222,16 @@ module _ {L T : Type 0} (l : line.Ghosts L) (t : talker.Ghosts T) where
     }
 
     -- the frame under way states a length above the limit
-    pub told_long : BadFrameIsFirst → FilesAreFrames → (new : StreamParts) (at : ℕ) → StandsFor new here → IsPush s.taken rest n (pushed.Bad at)
+    pub told_long : BadFrameIsFirst → FilesAreFrames → (new : StreamParts) (at : ℕ) → StreamStands new here → IsPush s.taken rest n (pushed.Bad at)
         → HasEnded l t old now first state (Bad at)
     told_long is_first are_frames new at stands push =
         let still = long_stays is_first are_frames here (drop n rest) at stands.fits ((push.bad at).0 refl) in
         let same : frames_of (heard_in s.events) ≡ frames_of s.taken = ap frames_of came_here ∙ still.1 ∙ push.frames in
         ends_told old now first state s.events (Bad at) (led_so first state (frames_of s.taken) s.led) s.did s.waits
-        (subst (λ (fs : List Raw). IsTold t first fs (said_in s.events)) (sym same) s.told, inl (ap first_refusal came_here ∙ still.0))
+        (subst (λ (fs : List Raw). IsTold t first fs (said_in s.events)) (sym same) s.told, inl (ap why_no_frame came_here ∙ still.0))
 
     -- a push ended a frame
-    module _ (new : StreamParts) (m : _) (stands : StandsFor new here) (push : IsPush s.taken rest n (pushed.Frame m)) where
+    module _ (new : StreamParts) (m : _) (stands : StreamStands new here) (push : IsPush s.taken rest n (pushed.Frame m)) where
       abbrev f : Raw
       f = push.frames.0
 
@@ -252,7 +252,7 @@ module _ {L T : Type 0} (l : line.Ghosts L) (t : talker.Ghosts T) where
         waits = waits_on (MayHear t first) [] [] s.events (spoken text) s.waits (waits_spoken (MayHear t first) (heard_in s.events) (said_in s.events) text);
         taken = here;
         came = heard_said s.events text ∙ came_here;
-        stands = subst (λ (p : StreamParts). StandsFor p here) (sym stream) stands;
+        stands = subst (λ (p : StreamParts). StreamStands p here) (sym stream) stands;
         short = push_short s.taken rest n (pushed.Frame m) push (λ at e. absurd cc);
         told = subst (IsTold t first (frames_of here)) (sym (said_more s.events text))
             (subst (λ (fs : List Raw). IsTold t first fs (said_in s.events ++ text)) (sym push.frames.1) (told (frames_of s.taken) f (said_in s.events) text s.told replies));
@@ -363,14 +363,14 @@ module _ {L T : Type 0} (l : line.Ghosts L) (t : talker.Ghosts T) where
 
   -- the bytes end within a frame
   pub told_bad : (old now : L) (first state : T) (frames : Frames) (kept : List ℕ) (at : ℕ) → (s : IsTelling l t old now first state frames kept [])
-      → (first_refusal s.taken ≡ Some (frame.TooLong at)) ⊎ (first_refusal s.taken ≡ Some (frame.Truncated at)) → IsAtEnd (l.rest now) → HasEnded l t old now first state (Bad at)
+      → (why_no_frame s.taken ≡ Some (frame.TooLong at)) ⊎ (why_no_frame s.taken ≡ Some (frame.Truncated at)) → IsAtEnd (l.rest now) → HasEnded l t old now first state (Bad at)
   told_bad old now first state frames kept at s end over =
       let all = all_told old now first state frames kept s in
       ends_told old now first state s.events (Bad at) (led_so first state (frames_of s.taken) s.led) s.did s.waits (
         all.1,
         ⊎_elim
-            (λ (h : first_refusal s.taken ≡ Some (frame.TooLong at)). inl (ap first_refusal all.0 ∙ h))
-            (λ (h : first_refusal s.taken ≡ Some (frame.Truncated at)). inr (ap first_refusal all.0 ∙ h, over))
+            (λ (h : why_no_frame s.taken ≡ Some (frame.TooLong at)). inl (ap why_no_frame all.0 ∙ h))
+            (λ (h : why_no_frame s.taken ≡ Some (frame.Truncated at)). inr (ap why_no_frame all.0 ∙ h, over))
             end,
       )
 

@@ -41,10 +41,10 @@ Hears old new (Ok n) buf = Grows old new (heard (take n buf) ∷ [])
 Hears old new (Err e) buf = Grows old new (heard [] ∷ [])
 
 -- what is heard is gone from the front of what is left, none only at the end or with no room, and nothing is said
-abbrev pub Takes : {E : Type 0} → Option (List ℕ) → Option (List ℕ) → Option (List ℕ) → Option (List ℕ) → Result ℕ E → List ℕ → Type 0
-Takes rest left before now (Ok n) buf =
+abbrev pub TakesBytes : {E : Type 0} → Option (List ℕ) → Option (List ℕ) → Option (List ℕ) → Option (List ℕ) → Result ℕ E → List ℕ → Type 0
+TakesBytes rest left before now (Ok n) buf =
     Consumes rest left (take n buf) × Appends before now [] × (n ≡ 0 → 0 < length buf → IsAtEnd left)
-Takes rest left before now (Err e) buf = Consumes rest left [] × Appends before now []
+TakesBytes rest left before now (Err e) buf = Consumes rest left [] × Appends before now []
 
 -- the bytes that a call said, all of them or, where it failed, a proper prefix
 abbrev pub IsSaid : {T E : Type 0} → List ℕ → Result T E → List ℕ → Type 0
@@ -52,7 +52,7 @@ IsSaid bytes (Ok x) part = part ≡ bytes
 IsSaid bytes (Err e) part = IsProperPrefix part bytes
 
 -- saying is one event, and nothing is heard
-pub record Gives {T E : Type 0} (old new : Option (List Event)) (had left before now : Option (List ℕ)) (bytes : List ℕ) (result : Result T E) : Type 0 where
+pub record GivesBytes {T E : Type 0} (old new : Option (List Event)) (had left before now : Option (List ℕ)) (bytes : List ℕ) (result : Result T E) : Type 0 where
   pub part : List ℕ
   pub is : IsSaid bytes result part
   pub grows : Grows old new (said part ∷ [])

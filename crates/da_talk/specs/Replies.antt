@@ -9,7 +9,7 @@ use Rattle.namespace_id.specs.Sizes.{namespace_size, share_size, digest_size}
 use Rattle.frame_fields.specs.Fields.{most_nodes}
 use Rattle.axis_roots.specs.Trees.{message_at}
 use Rattle.square_serve.specs.Answers.{is_wanted}
-use Rattle.square_serve.specs.Serving.{HeldParts, answer_for, entry_in}
+use Rattle.square_serve.specs.Serving.{HeldParts, answer_for, row_entry}
 use Rattle.frame_payloads.specs.kinds.Message.{message_payload, most_message}
 use Rattle.frame_payloads.specs.kinds.Names.{entry_bytes, names_payload}
 use Rattle.frame_payloads.specs.kinds.Requests.{sample_at, request_at}
@@ -78,8 +78,8 @@ reply held number (Names name) = names_reply held number name
 reply held number Nothing = refusal NoSuchFrame number
 
 -- the reply to the frame with a number
-abbrev pub reply_to : HeldParts → ℕ → Raw → List ℕ
-reply_to held number raw = reply held number (asked_by raw.kind raw.payload)
+abbrev pub held_reply : HeldParts → ℕ → Raw → List ℕ
+held_reply held number raw = reply held number (asked_by raw.kind raw.payload)
 
 -- the replies to frames, one after another, the first of which has this number
 abbrev pub replies_from : (ℕ → Raw → List ℕ) → ℕ → List Raw → List ℕ
@@ -93,5 +93,5 @@ due answer bytes = replies_from answer 0 (frames_of bytes)
 -- ---- rows
 
 -- what is written of a row for a namespace: its entry, where the row may hold the namespace
-abbrev pub row_bytes : HeldParts → Namespace → ℕ → List ℕ
-row_bytes held name row = if is_wanted held.header name row then entry_bytes (entry_in held.k held.grid name row) else []
+abbrev pub row_reply : HeldParts → Namespace → ℕ → List ℕ
+row_reply held name row = if is_wanted held.header name row then entry_bytes (row_entry held.k held.grid name row) else []

@@ -5,7 +5,7 @@ use Rattle.da_io.specs.declared.inputs.Ended.TheVariants as call
 use Rattle.da_io.specs.Sinks.{IsProperPrefix}
 use Rattle.da_wire.specs.Reading.{Raw}
 use Rattle.da_wire.specs.Frames.{frames_of, frames_bytes}
-use Rattle.da_wire.specs.Streams.{StandsFor}
+use Rattle.da_wire.specs.Streams.{StreamStands}
 use Rattle.da_talk.specs.declared.line.Line as line
 use Rattle.da_talk.specs.declared.talker.Talker as talker
 use Rattle.da_talk.specs.declared.talk_end.TalkEnd.{TalkEnd}
@@ -75,7 +75,7 @@ pub record IsTelling {L T : Type 0} (l : line.Ghosts L) (t : talker.Ghosts T) (o
   pub waits : Waits (MayHear t first) [] [] events
   pub taken : List ℕ
   pub came : heard_in events ≡ taken ++ rest
-  pub stands : StandsFor frames.stream taken
+  pub stands : StreamStands frames.stream taken
   pub short : HasNoLong taken
   pub told : IsTold t first (frames_of taken) (said_in events)
   pub led : t.led first state (frames_of taken)
@@ -101,9 +101,9 @@ TellsOn l t old new first now frames kept left (Ok x) = IsTelling l t old new fi
 TellsOn l t old new first now frames kept left (Err why) = HasEnded l t old new first now why
 
 -- so it does from wherever the talk began
-abbrev pub Tells : {L T A : Type 0} → line.Ghosts L → talker.Ghosts T → L → L → T → T → Frames → Frames → List ℕ → List ℕ → List ℕ
+abbrev pub TellsTalk : {L T A : Type 0} → line.Ghosts L → talker.Ghosts T → L → L → T → T → Frames → Frames → List ℕ → List ℕ → List ℕ
     → (A → List ℕ) → Result A TalkEnd → Type 0
-Tells {L} {T} l t was new state now before after had kept piece left result = (old : L) (first : T)
+TellsTalk {L} {T} l t was new state now before after had kept piece left result = (old : L) (first : T)
     → IsTelling l t old was first state before had piece → TellsOn l t old new first now after kept left result
 
 -- ---- failures
@@ -127,12 +127,12 @@ IsPlain NoMemory = ⊥
 IsPlain other = ⊤
 
 -- and how that is told
-abbrev pub EndsAs : TalkEnd → Ended → Type 0
-EndsAs Over end = end ≡ ended.Done
-EndsAs Decided end = ⊥
-EndsAs (Bad at) end = end ≡ ended.Bad at
-EndsAs (Unfit at) end = ⊥
-EndsAs ReadFailed end = end ≡ ended.ReadFailed
-EndsAs WriteFailed end = end ≡ ended.WriteFailed
-EndsAs TooLong end = end ≡ ended.TooLong
-EndsAs NoMemory end = ⊥
+abbrev pub IsToldAs : TalkEnd → Ended → Type 0
+IsToldAs Over end = end ≡ ended.Done
+IsToldAs Decided end = ⊥
+IsToldAs (Bad at) end = end ≡ ended.Bad at
+IsToldAs (Unfit at) end = ⊥
+IsToldAs ReadFailed end = end ≡ ended.ReadFailed
+IsToldAs WriteFailed end = end ≡ ended.WriteFailed
+IsToldAs TooLong end = end ≡ ended.TooLong
+IsToldAs NoMemory end = ⊥

@@ -8,7 +8,7 @@ use Rattle.da_io.specs.Faults.{max_count, count_on}
 use Rattle.da_io.specs.Sinks.{IsProperPrefix}
 use Rattle.da_wire.specs.declared.frames.FrameError.TheVariants as frame
 use Rattle.da_wire.specs.Frames.{bad_frame}
-use Rattle.da_wire.specs.Streams.{first_refusal}
+use Rattle.da_wire.specs.Streams.{why_no_frame}
 use Rattle.da_talk.specs.declared.line.Line as line
 use Rattle.da_talk.specs.declared.ended.Ended.{Ended}
 use Rattle.da_talk.specs.declared.ended.Ended.TheVariants.{Done, Bad, ReadFailed, WriteFailed, TooLong}
@@ -44,7 +44,7 @@ pub record IsPrompt (due : List ℕ → List ℕ) (events : List Event) : Type 0
 
 -- no frame of these bytes states a length above the limit
 abbrev pub HasNoLong : List ℕ → Type 0
-HasNoLong bytes = (at : ℕ) → first_refusal bytes ≡ Some (frame.TooLong at) → ⊥
+HasNoLong bytes = (at : ℕ) → why_no_frame bytes ≡ Some (frame.TooLong at) → ⊥
 
 -- ---- the end
 
@@ -54,7 +54,7 @@ IsAnswered due events = said_in events ≡ due (heard_in events)
 
 -- the frame at this offset states a length above the limit, or the bytes ended within it
 abbrev pub IsBad : List ℕ → Option (List ℕ) → ℕ → Type 0
-IsBad bytes rest at = (first_refusal bytes ≡ Some (frame.TooLong at)) ⊎ ((first_refusal bytes ≡ Some (frame.Truncated at)) × IsAtEnd rest)
+IsBad bytes rest at = (why_no_frame bytes ≡ Some (frame.TooLong at)) ⊎ ((why_no_frame bytes ≡ Some (frame.Truncated at)) × IsAtEnd rest)
 
 -- what the end of a talk says of what was heard and said, and of what is left to be heard
 abbrev pub EndsTalk : (List ℕ → List ℕ) → List Event → Option (List ℕ) → Ended → Type 0

@@ -35,7 +35,7 @@ pub data IsDue {T : Type 0} (t : talker.Ghosts T) (first now : T) (bytes : List 
 -- ---- the end
 
 -- the bytes were over behind whole frames: all replies were said, and the last words
-pub record IsOver {T : Type 0} (t : talker.Ghosts T) (first now : T) (heard said : List ℕ) (rest : Option (List ℕ)) : Type 0 where
+pub record EndsOver {T : Type 0} (t : talker.Ghosts T) (first now : T) (heard said : List ℕ) (rest : Option (List ℕ)) : Type 0 where
   pub before : List ℕ
   pub text : List ℕ
   pub told : IsTold t first (frames_of heard) before
@@ -45,7 +45,7 @@ pub record IsOver {T : Type 0} (t : talker.Ghosts T) (first now : T) (heard said
   pub end : IsAtEnd rest
 
 -- a frame ended the talk: the replies to those before it were said, and the last words
-pub record IsDecided {T : Type 0} (t : talker.Ghosts T) (first now : T) (heard said : List ℕ) : Type 0 where
+pub record EndsDecided {T : Type 0} (t : talker.Ghosts T) (first now : T) (heard said : List ℕ) : Type 0 where
   pub frames : List Raw
   pub frame : Raw
   pub later : List Raw
@@ -67,7 +67,7 @@ pub record IsUnfit {T : Type 0} (t : talker.Ghosts T) (first : T) (heard said : 
   pub refused : t.refuses first frames frame
 
 -- what was due next was said in part
-pub record IsCut {T : Type 0} (t : talker.Ghosts T) (first now : T) (heard said : List ℕ) : Type 0 where
+pub record EndsCut {T : Type 0} (t : talker.Ghosts T) (first now : T) (heard said : List ℕ) : Type 0 where
   pub before : List ℕ
   pub text : List ℕ
   pub part : List ℕ
@@ -94,12 +94,12 @@ pub record HasNoMemory {T : Type 0} (t : talker.Ghosts T) (first : T) (heard sai
 
 -- what the end of a talk says of what was heard and said, and of what is left to be heard
 abbrev pub EndsTold : {T : Type 0} → talker.Ghosts T → T → T → List ℕ → List ℕ → Option (List ℕ) → TalkEnd → Type 0
-EndsTold t first now heard said rest Over = IsOver t first now heard said rest
-EndsTold t first now heard said rest Decided = IsDecided t first now heard said
+EndsTold t first now heard said rest Over = EndsOver t first now heard said rest
+EndsTold t first now heard said rest Decided = EndsDecided t first now heard said
 EndsTold t first now heard said rest (Bad at) = IsTold t first (frames_of heard) said × IsBad heard rest at
 EndsTold t first now heard said rest (Unfit at) = IsUnfit t first heard said at
 EndsTold t first now heard said rest ReadFailed = IsTold t first (frames_of heard) said
-EndsTold t first now heard said rest WriteFailed = IsCut t first now heard said
+EndsTold t first now heard said rest WriteFailed = EndsCut t first now heard said
 EndsTold t first now heard said rest TooLong = IsTooLong t first heard said
 EndsTold t first now heard said rest NoMemory = HasNoMemory t first heard said
 

@@ -4,7 +4,7 @@ ghost use Rattle.std.specs.Prelude.{◌≡◌, ◌≤◌, ℕ};
 ghost use Rattle.std.specs.Option.{option_map};
 ghost use Rattle.frame_payloads.specs.kinds.Message.{most_message};
 ghost use Rattle.da_wire.specs.Reading.{Raw, raw_seen};
-ghost use Rattle.da_wire.specs.Frames.{message_in};
+ghost use Rattle.da_wire.specs.Frames.{raw_message};
 ghost use Rattle.da_talk.specs.Handed.{if_within, asks_state};
 
 use axis_roots::Message;
@@ -26,7 +26,7 @@ pub fn asks_state(frame: Option<RawFrame<'_>>) -> bool
 /// The sample of the grammar that a frame is, if it is one, where at least the bytes of the longest sample are handed.
 pub fn sample_in(frame: Option<RawFrame<'_>>) -> Option<Message>
     ensures { (longest : ℕ) (raw : Raw) → most_message ≤ longest →
-        option_map (λ f. raw_seen f) frame.entry ≡ if_within longest raw → result ≡ message_in raw }
+        option_map (λ f. raw_seen f) frame.entry ≡ if_within longest raw → result ≡ raw_message raw }
 {
     let Some(frame) = frame else {
         return None;

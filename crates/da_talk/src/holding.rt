@@ -2,8 +2,8 @@
 
 ghost use Rattle.std.specs.Prelude.{◌≡◌, ◌≤◌, length, vec_capacity};
 ghost use Rattle.da_io.specs.Faults.{count_on};
-ghost use Rattle.da_talk.specs.Replies.{most_reply, reply_to, due};
-ghost use Rattle.da_talk.specs.Steps.{IsPlain, EndsAs};
+ghost use Rattle.da_talk.specs.Replies.{most_reply, held_reply, due};
+ghost use Rattle.da_talk.specs.Steps.{IsPlain, IsToldAs};
 ghost use Rattle.da_talk.specs.Talks.{HasTalked, last_wait, read_count, write_count};
 
 use crate::asking::asked_in;
@@ -54,7 +54,7 @@ impl Room for RequestRoom {
 impl Talker for Held {
     ghost use Rattle.std.specs.Prelude.{◌≡◌, [], length, false, ⊤};
     ghost use Rattle.namespace_id.specs.Sizes.{namespace_size};
-    ghost use Rattle.da_talk.specs.Replies.{most_reply, reply_to};
+    ghost use Rattle.da_talk.specs.Replies.{most_reply, held_reply};
 
     ghost is_fresh = { λ held. ⊤ };
 
@@ -70,7 +70,7 @@ impl Talker for Held {
 
     ghost begins = { λ first text. text ≡ [] };
 
-    ghost replies = { λ first frames frame text. text ≡ reply_to first (length frames) frame };
+    ghost replies = { λ first frames frame text. text ≡ held_reply first (length frames) frame };
 
     ghost refuses = { λ first frames frame. ⊥ };
 
@@ -98,7 +98,7 @@ impl Talker for Held {
 /// How a talk of replies alone ended.
 fn ended(end: TalkEnd) -> Ended
     requires { IsPlain end }
-    ensures { EndsAs end result }
+    ensures { IsToldAs end result }
 {
     match end {
         TalkEnd::Over => Ended::Done,
@@ -121,7 +121,7 @@ fn ended(end: TalkEnd) -> Ended
 pub fn hold<L: Line>(held: &mut Held, text: &mut Vec<u8>, line: &mut L) -> Ended
     requires room { most_reply held.old.k ≤ vec_capacity text.old }
     ensures kept { held.new ≡ held.old }
-    ensures talk { HasTalked L.Line line.old line.new (due (reply_to held.old)) result }
+    ensures talk { HasTalked L.Line line.old line.new (due (held_reply held.old)) result }
 
     // A failure is answered exactly where one happened, and it was the last call.
     ensures ended { L.ended line.new ≡ last_wait result }

@@ -5,7 +5,7 @@ ghost use Rattle.std.specs.declared.option.Option.{Option};
 ghost use Rattle.std.specs.Io.{ReadsAtMost};
 ghost use Rattle.da_io.specs.declared.inputs.Ended.{Ended};
 ghost use Rattle.da_io.specs.Faults.{max_count, CountsFault, GivesCounted, read_end};
-ghost use Rattle.da_talk.specs.Events.{Event, Hears, Takes, Gives};
+ghost use Rattle.da_talk.specs.Events.{Event, Hears, TakesBytes, GivesBytes};
 
 use da_io::{ReadFailed, WriteFailed};
 
@@ -41,7 +41,7 @@ pub trait Line {
     fn hear(&mut self, buf: &mut [u8]) -> Result<usize, ReadFailed>
         ensures bound { ReadsAtMost result buf.new }
         ensures events { Hears (events self.old) (events self.new) result buf.new }
-        ensures rest { Takes (rest self.old) (rest self.new) (taken self.old) (taken self.new) result
+        ensures rest { TakesBytes (rest self.old) (rest self.new) (taken self.old) (taken self.new) result
             buf.new }
         ensures given { GivesCounted (given self.old) (given self.new) result }
         ensures ended { ended self.new ≡ read_end result }
@@ -53,7 +53,7 @@ pub trait Line {
     ///
     /// After a failure a proper prefix was said.
     fn say(&mut self, bytes: &[u8]) -> Result<(), WriteFailed>
-        ensures said { Gives (events self.old) (events self.new) (rest self.old) (rest self.new)
+        ensures said { GivesBytes (events self.old) (events self.new) (rest self.old) (rest self.new)
             (taken self.old) (taken self.new) bytes.now result }
         ensures rest { rest self.new ≡ rest self.old }
         ensures given { given self.new ≡ given self.old }

@@ -2,7 +2,7 @@
 
 ghost use Rattle.std.specs.Prelude.{◌≡◌, IfSome};
 ghost use Rattle.da_talk.specs.Events.{heard, said};
-ghost use Rattle.da_talk.specs.Logs.{logged, event_of, Lengthens};
+ghost use Rattle.da_talk.specs.Logs.{logged, logged_event, Lengthens};
 
 use crate::Line;
 use da_io::{ReadFailed, WriteFailed};
@@ -40,7 +40,7 @@ fn longer(log: Option<Vec<Happened>>, event: Option<Happened>) -> Option<Vec<Hap
 
 /// That these bytes were heard.
 fn heard_event(alloc: Global, bytes: &[u8]) -> Option<Happened>
-    ensures { IfSome result (λ h. event_of h ≡ heard bytes.now) }
+    ensures { IfSome result (λ h. logged_event h ≡ heard bytes.now) }
 {
     match Vec::from_slice(alloc, bytes) {
         Ok(copy) => Some(Happened::Heard(copy)),
@@ -50,7 +50,7 @@ fn heard_event(alloc: Global, bytes: &[u8]) -> Option<Happened>
 
 /// That these bytes were said.
 fn said_event(alloc: Global, bytes: &[u8]) -> Option<Happened>
-    ensures { IfSome result (λ h. event_of h ≡ said bytes.now) }
+    ensures { IfSome result (λ h. logged_event h ≡ said bytes.now) }
 {
     match Vec::from_slice(alloc, bytes) {
         Ok(copy) => Some(Happened::Said(copy)),

@@ -6,11 +6,11 @@ ghost use Rattle.std.specs.List.{flat_map};
 ghost use Rattle.namespace_id.specs.Answers.{HasRoom};
 ghost use Rattle.namespace_id.specs.Cells.{is_width};
 ghost use Rattle.namespace_id.specs.Names.{is_parity};
-ghost use Rattle.square_serve.specs.Serving.{entry_in, answer_for};
+ghost use Rattle.square_serve.specs.Serving.{row_entry, answer_for};
 ghost use Rattle.frame_payloads.specs.kinds.Names.{entry_bytes, names_payload};
 ghost use Rattle.da_wire.specs.Spelling.{frame, names_kind};
 ghost use Rattle.da_talk.specs.Replies.{most_entry, most_names};
-ghost use Rattle.da_talk.specs.Replies.{row_bytes};
+ghost use Rattle.da_talk.specs.Replies.{row_reply};
 
 use crate::frames::HEAD_SIZE;
 use frame_payloads::{put_absence, put_range};
@@ -27,7 +27,7 @@ fn put_entry(text: &mut Vec<u8>, held: &mut Held, row: u16, name: &Namespace)
     requires room { HasRoom text.old (most_entry held.old.k) }
     ensures kept { held.new ≡ held.old }
     ensures appended { text.new.items ≡ text.old.items
-        ++ entry_bytes (entry_in held.old.k held.old.grid name.now row) }
+        ++ entry_bytes (row_entry held.old.k held.old.grid name.now row) }
     ensures len { vec_len text.new ≤ vec_len text.old + most_entry held.old.k }
     ensures capacity { vec_capacity text.old ≤ vec_capacity text.new }
 {
@@ -59,7 +59,7 @@ fn put_row(text: &mut Vec<u8>, held: &mut Held, row: u16, name: &Namespace)
     requires other { is_parity name.now ≡ false }
     requires room { HasRoom text.old (most_entry held.old.k) }
     ensures kept { held.new ≡ held.old }
-    ensures appended { text.new.items ≡ text.old.items ++ row_bytes held.old name.now row }
+    ensures appended { text.new.items ≡ text.old.items ++ row_reply held.old name.now row }
     ensures len { vec_len text.new ≤ vec_len text.old + most_entry held.old.k }
     ensures capacity { vec_capacity text.old ≤ vec_capacity text.new }
 {

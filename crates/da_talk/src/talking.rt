@@ -9,7 +9,7 @@ ghost use Rattle.da_wire.specs.Frames.{ok_of};
 ghost use Rattle.da_wire.specs.Streams.{offset_of};
 ghost use Rattle.da_talk.specs.Talks.{Does};
 ghost use Rattle.da_talk.specs.Told.{HasTold, last_heard, hear_count, say_count};
-ghost use Rattle.da_talk.specs.Steps.{spoken, Says, SaysDue, Replies, IsTelling, HasEnded, Tells, HasHeardAll, say_faults};
+ghost use Rattle.da_talk.specs.Steps.{spoken, Says, SaysDue, Replies, IsTelling, HasEnded, TellsTalk, HasHeardAll, say_faults};
 
 use crate::frames::HEAD_SIZE;
 use crate::room::Room;
@@ -119,7 +119,7 @@ fn answer_frame<L: Line, T: Talker, R: Room>(
     requires taken { frames.old.taken ≡ frames.old.stream.taken }
     requires bytes { frames.old.taken + length piece.now < 2 ^ 64 }
     requires few { frames.old.count ≤ frames.old.taken }
-    ensures tells { Tells L.Line T.Talker line.old line.new talker.old talker.new frames.old frames.new
+    ensures tells { TellsTalk L.Line T.Talker line.old line.new talker.old talker.new frames.old frames.new
         (R.kept room.old) (R.kept room.new) piece.now (λ count. drop count piece.now) result }
     ensures open { OnOk result (T.is_over talker.new ≡ false) }
     ensures text { OnOk result (T.most talker.new ≤ vec_capacity text.new) }
@@ -171,7 +171,7 @@ fn answer_piece<L: Line, T: Talker, R: Room>(
     requires taken { frames.old.taken ≡ frames.old.stream.taken }
     requires bytes { frames.old.taken + length piece.now < 2 ^ 64 }
     requires few { frames.old.count ≤ frames.old.taken }
-    ensures tells { Tells L.Line T.Talker line.old line.new talker.old talker.new frames.old frames.new
+    ensures tells { TellsTalk L.Line T.Talker line.old line.new talker.old talker.new frames.old frames.new
         (R.kept room.old) (R.kept room.new) piece.now (λ all. []) result }
     ensures open { OnOk result (T.is_over talker.new ≡ false) }
     ensures text { OnOk result (T.most talker.new ≤ vec_capacity text.new) }

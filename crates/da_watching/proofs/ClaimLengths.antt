@@ -14,7 +14,7 @@ use Rattle.namespace_id.specs.Sizes.{digest_size}
 use Rattle.axis_roots.specs.declared.message.messages.Message.{Message}
 use Rattle.axis_roots.specs.Sets.{is_along, is_one_axis}
 use Rattle.axis_roots.specs.Claims.{ClaimParts, IsClaim}
-use Rattle.frame_fields.specs.Fields.{byte_at, string_at, number_at, split_into, digest, digests_at, axis_at, cell_at, path_at, count_at, digest_list_at, many_at, list_at}
+use Rattle.frame_fields.specs.Fields.{byte_at, string_at, big_endian_at, split_into, digest, digests_at, axis_at, cell_at, path_at, count_at, digest_list_at, many_at, list_at}
 use Rattle.frame_fields.specs.Messages.{message_front, message_at}
 use Rattle.frame_payloads.specs.kinds.Message.{most_message}
 use Rattle.frame_payloads.specs.kinds.Fraud.{accused_at, claim_cells_at, plain_at, tag_at, cell_path_at, set_cell_at, set_cells_at, with_set_at, fraud_at, fraud_payload, is_unwritten}
@@ -73,14 +73,14 @@ tag_few axis bytes r e =
     omega (arith, byte_few bytes byte.0 byte.1, by_byte_few (crossing axis) axis byte.0 r byte.2)
 
 -- a number of two bytes
-number_few : TakesFew 2 (number_at w16)
+number_few : TakesFew 2 (big_endian_at w16)
 number_few bytes r e = front_few (from_be_bytes w16) 2 bytes r e
 
 cell_few : TakesFew 4 cell_at
 unfolding cell_at
 cell_few bytes r e =
-    let row = bind_some (number_at w16 bytes) _ r e in
-    let col = bind_some (number_at w16 row.0.1) _ r row.2 in
+    let row = bind_some (big_endian_at w16 bytes) _ r e in
+    let col = bind_some (big_endian_at w16 row.0.1) _ r row.2 in
     omega (arith, number_few bytes row.0 row.1, number_few row.0.1 col.0 col.1, left_of _ r col.2)
 
 -- digests
@@ -156,7 +156,7 @@ many_less {A} most less one test few fewer (suc count) bytes r e some =
 count_few : (limit : ℕ) (bytes : List ℕ) (r : ℕ × List ℕ) → count_at w16 limit bytes ≡ Some r → (r.0 ≤ limit) × (length bytes ≤ 2 + length r.1)
 unfolding count_at
 count_few limit bytes r e =
-    let count = bind_some (number_at w16 bytes) _ r e in
+    let count = bind_some (big_endian_at w16 bytes) _ r e in
     let few = if_false (ltb limit count.0.0) (Some count.0) r count.2 in
     let same : count.0 ≡ r = same_Some count.0 r few.1 in
     (subst (λ (x : ℕ × List ℕ). x.0 ≤ limit) same (ltb-false limit count.0.0 few.0), subst (λ (x : ℕ × List ℕ). length bytes ≤ 2 + length x.1) same (number_few bytes count.0 count.1))
@@ -176,7 +176,7 @@ accused_few form bytes r e =
     let byte = bind_some (byte_at bytes) _ r e in
     let axis = bind_some (cond (eqb byte.0.0 form) (axis_at byte.0.1) None) _ r byte.2 in
     let same = if_true (eqb byte.0.0 form) (axis_at byte.0.1) axis.0 axis.1 in
-    let index = bind_some (number_at w16 axis.0.1) _ r axis.2 in
+    let index = bind_some (big_endian_at w16 axis.0.1) _ r axis.2 in
     omega (arith, byte_few bytes byte.0 byte.1, axis_few byte.0.1 axis.0 same.1, number_few axis.0.1 index.0 index.1, left_of _ r index.2)
 
 claim_cells_few : (bytes : List ℕ) (r : List Message × List ℕ) → claim_cells_at bytes ≡ Some r → length bytes ≤ 726018 + length r.1
@@ -203,7 +203,7 @@ set_cell_read : (axis : Axis) (index : ℕ) (bytes : List ℕ) (r : Message × L
     → length bytes ≤ 515 + cond (is_along axis r.0) 0 901 + length r.1
 unfolding set_cell_at
 set_cell_read axis index bytes r e =
-    let pos = bind_some (number_at w16 bytes) _ r e in
+    let pos = bind_some (big_endian_at w16 bytes) _ r e in
     let tag = bind_some (tag_at axis pos.0.1) _ r pos.2 in
     let share = bind_some (string_at 512 tag.0.1) _ r tag.2 in
     let path = bind_some (cell_path_at (is_one_axis axis tag.0.0) share.0.1) _ r share.2 in

@@ -6,7 +6,7 @@ use Rattle.da_wire.specs.Reading.{Raw}
 use Rattle.da_judging.specs.Light.{event_in, events_in}
 use Rattle.da_talk.specs.Handed.{asks_state, fed}
 use Rattle.da_talk.proofs.FedLemmas.{fed_asked, fed_other}
-use Rattle.da_watching.specs.Watched.{events_of}
+use Rattle.da_watching.specs.Watched.{frame_events}
 
 -- an event, if there is one, before others
 abbrev with_event : Option Event → List Event → List Event
@@ -30,25 +30,25 @@ unfolding events_in
 events_in-one frame found e = ap (λ (o : Option Event). with_event o []) e
 
 -- a frame that asks for the state is no event
-pub events_asked : (frames : List Raw) (frame : Raw) → asks_state frame ≡ true → events_of (frames ++ frame ∷ []) ≡ events_of frames
+pub events_asked : (frames : List Raw) (frame : Raw) → asks_state frame ≡ true → frame_events (frames ++ frame ∷ []) ≡ frame_events frames
 events_asked frames frame asks = ap events_in (fed_asked frames frame asks)
 
 -- another is the event that it is
 events_other : (frames : List Raw) (frame : Raw) (found : Option Event) → asks_state frame ≡ false → event_in frame ≡ found
-    → events_of (frames ++ frame ∷ []) ≡ events_of frames ++ with_event found []
+    → frame_events (frames ++ frame ∷ []) ≡ frame_events frames ++ with_event found []
 events_other frames frame found asks e =
     ap events_in (fed_other frames frame asks) ∙ events_in-append (fed frames) (frame ∷ [])
-    ∙ ap (λ (l : List Event). events_of frames ++ l) (events_in-one frame found e)
+    ∙ ap (λ (l : List Event). frame_events frames ++ l) (events_in-one frame found e)
 
 pub events_fed : (frames : List Raw) (frame : Raw) (event : Event) → asks_state frame ≡ false → event_in frame ≡ Some event
-    → events_of (frames ++ frame ∷ []) ≡ events_of frames ++ event ∷ []
+    → frame_events (frames ++ frame ∷ []) ≡ frame_events frames ++ event ∷ []
 events_fed frames frame event asks e = events_other frames frame (Some event) asks e
 
 -- or none
-pub events_none : (frames : List Raw) (frame : Raw) → asks_state frame ≡ false → event_in frame ≡ None → events_of (frames ++ frame ∷ []) ≡ events_of frames
-events_none frames frame asks e = events_other frames frame None asks e ∙ append-nil (events_of frames)
+pub events_none : (frames : List Raw) (frame : Raw) → asks_state frame ≡ false → event_in frame ≡ None → frame_events (frames ++ frame ∷ []) ≡ frame_events frames
+events_none frames frame asks e = events_other frames frame None asks e ∙ append-nil (frame_events frames)
 
 -- no frames have no events
-pub events_empty : events_of [] ≡ []
+pub events_empty : frame_events [] ≡ []
 unfolding events_in
 events_empty = refl

@@ -8,7 +8,7 @@ use Rattle.frame_payloads.specs.kinds.Fraud.{fraud_at}
 use Rattle.light_node.specs.declared.events.Event.TheVariants.{Sample, Claim}
 use Rattle.da_wire.specs.Spelling.{message_kind, fraud_kind}
 use Rattle.da_wire.specs.Reading.{Raw}
-use Rattle.da_wire.specs.Frames.{message_in, claim_in}
+use Rattle.da_wire.specs.Frames.{raw_message, raw_claim}
 use Rattle.da_judging.specs.Light.{event_in}
 use Rattle.da_talk.specs.Handed.{if_within}
 use Rattle.da_talk.proofs.HandedLemmas.{handed_none}
@@ -34,7 +34,7 @@ none_by false found e = refl
 pub no_event : (frame : Raw) → None ≡ if_within most_claim frame → event_in frame ≡ None
 no_event frame e =
     let more : most_claim < length frame.payload = handed_none most_claim frame e in
-    let no_sample : message_in frame ≡ None =
+    let no_sample : raw_message frame ≡ None =
     none_by (eqb frame.kind message_kind) (message_at frame.payload) (no_message frame.payload (message_at frame.payload) more refl) in
-    let no_accusal : claim_in frame ≡ None = none_by (eqb frame.kind fraud_kind) (fraud_at frame.payload) (no_claim frame.payload (fraud_at frame.payload) more refl) in
+    let no_accusal : raw_claim frame ≡ None = none_by (eqb frame.kind fraud_kind) (fraud_at frame.payload) (no_claim frame.payload (fraud_at frame.payload) more refl) in
     ap₂ (λ (m : Option Message) (c : Option ClaimParts). option_map_or (λ x. Some (Sample x)) m (option_map Claim c)) no_sample no_accusal

@@ -7,13 +7,13 @@ use Rattle.light_node.specs.declared.events.Light.{Light}
 use Rattle.light_node.specs.declared.events.Light.TheVariants as light
 use Rattle.da_wire.specs.Reading.{Raw}
 use Rattle.da_status.specs.declared.status.Status.{Status}
-use Rattle.da_judging.specs.Light.{Answers, Judges}
+use Rattle.da_judging.specs.Light.{GivesLight, Judges}
 use Rattle.da_talk.specs.Handed.{fed}
-use Rattle.da_watching.specs.Watched.{state_frame, Tells, status_of, Decides, Ends}
+use Rattle.da_watching.specs.Watched.{state_frame, TellsVerdict, light_status, Decides, EndsWatching}
 
 -- a verdict is written as it is told, but for its line
-told_answers : (verdict : Light) (text : List ℕ) (status : Status) → Tells verdict text → status ≡ status_of verdict
-    → (w : List ℕ) × Answers verdict w status × ((w ≡ text) ⊎ ((w ≡ codes "available\n") × (text ≡ state_frame)))
+told_answers : (verdict : Light) (text : List ℕ) (status : Status) → TellsVerdict verdict text → status ≡ light_status verdict
+    → (w : List ℕ) × GivesLight verdict w status × ((w ≡ text) ⊎ ((w ≡ codes "available\n") × (text ≡ state_frame)))
 told_answers light.Available text status told is = (codes "available\n", (refl, is), inr (refl, told))
 told_answers (light.Waiting cells) text status told is = (text, (told, is), inl refl)
 told_answers (light.Rejected claim) text status told is = (text, (told, is), inl refl)
@@ -24,7 +24,7 @@ pub decided_judged : (header : Roots) (plan : List Cell) (frames : List Raw) (te
 decided_judged header plan frames text status (claim, first, told, is) = (light.Rejected claim, first, (told, is))
 
 -- the verdict at the end
-pub ended_judged : (header : Roots) (plan : List Cell) (frames : List Raw) (text : List ℕ) (status : Status) → Ends header plan frames text status
+pub ended_judged : (header : Roots) (plan : List Cell) (frames : List Raw) (text : List ℕ) (status : Status) → EndsWatching header plan frames text status
     → (w : List ℕ) × Judges header plan (fed frames) w status × ((w ≡ text) ⊎ ((w ≡ codes "available\n") × (text ≡ state_frame)))
 ended_judged header plan frames text status (none, verdict, is, told, goes) =
     let written = told_answers verdict text status told goes in

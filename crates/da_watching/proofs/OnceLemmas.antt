@@ -11,7 +11,7 @@ use Rattle.axis_roots.specs.Openings.{IsProved}
 use Rattle.axis_roots.specs.Claims.{ClaimParts}
 use Rattle.befp_verify.specs.declared.verifying.FraudRefusal.{FraudRefusal}
 use Rattle.befp_verify.specs.declared.verifying.FraudRefusal.TheVariants.{Shape, Cell as CellOf, Set, AxisMatches}
-use Rattle.befp_verify.specs.Refusals.{HasCause}
+use Rattle.befp_verify.specs.Refusals.{HasFraudCause}
 use Rattle.light_node.specs.declared.events.Event.{Event}
 use Rattle.light_node.specs.declared.events.Event.TheVariants.{Sample, Claim}
 use Rattle.light_node.specs.declared.events.LightState.{LightState}
@@ -21,19 +21,19 @@ use Rattle.light_node.specs.declared.events.Light.TheVariants as light
 use Rattle.light_node.specs.Events.{IsState, IsLight}
 use Rattle.frame_payloads.specs.declared.refusals.Reason.{Reason}
 use Rattle.da_wire.specs.Reading.{Raw}
-use Rattle.da_wire.specs.Frames.{message_in, claim_in}
+use Rattle.da_wire.specs.Frames.{raw_message, raw_claim}
 use Rattle.da_status.specs.declared.status.Status.{Status}
 use Rattle.da_judging.specs.Light.{event_in}
 use Rattle.da_judging.specs.Check.{IsProvedFrame}
 use Rattle.da_talk.specs.Replies.{refusal}
 use Rattle.da_talk.specs.Handed.{asks_state}
 use Rattle.da_talk.specs.Reasons.{sample_reason}
-use Rattle.da_watching.specs.Watched.{events_of, Tells, status_of, news, claim_reason, IsRefusedAs, IsLie, Begins, RepliesBy, Replies, Decides, Ends}
+use Rattle.da_watching.specs.Watched.{frame_events, TellsVerdict, light_status, said_unasked, claim_reason, IsRefusedAs, IsLie, BeginsWatching, RepliesBy, RepliesWatching, Decides, EndsWatching}
 
 -- ---- reasons
 
 -- a claim is refused for one reason
-cause_once : (header : Roots) (claim : ClaimParts) (one other : FraudRefusal) → HasCause header claim (Some one) → HasCause header claim (Some other) → claim_reason one ≡ claim_reason other
+cause_once : (header : Roots) (claim : ClaimParts) (one other : FraudRefusal) → HasFraudCause header claim (Some one) → HasFraudCause header claim (Some other) → claim_reason one ≡ claim_reason other
 cause_once header claim Shape Shape a b = refl
 cause_once header claim Shape (CellOf i why) a b = absurd (true≢false (sym b.0 ∙ a))
 cause_once header claim Shape (Set why) a b = absurd (true≢false (sym b.0 ∙ a))
@@ -69,8 +69,8 @@ refused_unproved header m (Some (Sample n)) reason law e proved (why, refused, i
     none-some why (sym ((law proved.sized).1 proved) ∙ sym (ap (message_refusal header) same) ∙ refused)
 
 -- the event of a frame that is a sample
-sample_event : (frame : Raw) (m : Message) → message_in frame ≡ Some m → event_in frame ≡ Some (Sample m)
-sample_event frame m e = ap (λ (o : Option Message). option_map_or (λ x. Some (Sample x)) o (option_map Claim (claim_in frame))) e
+sample_event : (frame : Raw) (m : Message) → raw_message frame ≡ Some m → event_in frame ≡ Some (Sample m)
+sample_event frame m e = ap (λ (o : Option Message). option_map_or (λ x. Some (Sample x)) o (option_map Claim (raw_claim frame))) e
 
 pub lie_unproved : (header : Roots) (frame : Raw) (reason : Reason)
     → ((m : Message) → IsMessage m → (message_refusal header m ≡ None) ↔ IsProved header m)
@@ -81,7 +81,7 @@ lie_unproved header frame reason law lie (m, is, proved) =
 -- ---- texts
 
 -- a verdict has one text
-tells_once : (verdict : Light) (one other : List ℕ) → Tells verdict one → Tells verdict other → one ≡ other
+tells_once : (verdict : Light) (one other : List ℕ) → TellsVerdict verdict one → TellsVerdict verdict other → one ≡ other
 tells_once light.Available one other a b = a ∙ sym b
 tells_once (light.Waiting cells) one other a b = same_Some one other (sym a ∙ b)
 tells_once (light.Rejected claim) one other a b = same_Some one other (sym a ∙ b)
@@ -98,39 +98,39 @@ same_claim one other e = cc
 
 module _ (laws : AreLight) (header : Roots) (plan : List Cell) where
   -- what is said first
-  pub begins_once : (one other : List ℕ) → Begins header plan one → Begins header plan other → one ≡ other
+  pub begins_once : (one other : List ℕ) → BeginsWatching header plan one → BeginsWatching header plan other → one ≡ other
   begins_once one other (now, is, text) (then, was, again) =
-      text ∙ ap (news state.Waiting) (laws.state_once header plan [] now then is was) ∙ sym again
+      text ∙ ap (said_unasked state.Waiting) (laws.state_once header plan [] now then is was) ∙ sym again
 
   -- the last words behind frames, and the status that goes with them
-  pub ends_once : (frames : List Raw) (one other : List ℕ) (status kept : Status) → Ends header plan frames one status → Ends header plan frames other kept
+  pub ends_once : (frames : List Raw) (one other : List ℕ) (status kept : Status) → EndsWatching header plan frames one status → EndsWatching header plan frames other kept
       → (one ≡ other) × (status ≡ kept)
   ends_once frames one other status kept (none, verdict, is, told, goes) (still, again, was, twice, went) =
-      let same = laws.once header plan (events_of frames) verdict again is was in
-      (tells_once again one other (subst (λ (v : Light). Tells v one) same told) twice, goes ∙ ap status_of same ∙ sym went)
+      let same = laws.once header plan (frame_events frames) verdict again is was in
+      (tells_once again one other (subst (λ (v : Light). TellsVerdict v one) same told) twice, goes ∙ ap light_status same ∙ sym went)
 
   -- those of a claim
   pub decides_once : (frames : List Raw) (one other : List ℕ) (status kept : Status) → Decides header frames one status → Decides header frames other kept
       → (one ≡ other) × (status ≡ kept)
   decides_once frames one other status kept (claim, is, told, goes) (again, was, twice, went) =
-      let same : claim ≡ again = same_claim claim again (laws.once header plan (events_of frames) (light.Rejected claim) (light.Rejected again) is was) in (
-        tells_once (light.Rejected again) one other (subst (λ (c : ClaimParts). Tells (light.Rejected c) one) same told) twice,
-        goes ∙ ap (λ (c : ClaimParts). status_of (light.Rejected c)) same ∙ sym went,
+      let same : claim ≡ again = same_claim claim again (laws.once header plan (frame_events frames) (light.Rejected claim) (light.Rejected again) is was) in (
+        tells_once (light.Rejected again) one other (subst (λ (c : ClaimParts). TellsVerdict (light.Rejected c) one) same told) twice,
+        goes ∙ ap (λ (c : ClaimParts). light_status (light.Rejected c)) same ∙ sym went,
       )
 
   module _ (frames : List Raw) (frame : Raw) (apart : (reason : Reason) → IsLie header frame reason → IsProvedFrame header frame → ⊥) where
     -- the reply to a frame, by whether it asks
     by_once : (asks : Bool) (one other : List ℕ) → RepliesBy asks header plan frames frame one → RepliesBy asks header plan frames frame other → one ≡ other
     by_once true one other (verdict, is, told) (again, was, twice) =
-        tells_once again one other (subst (λ (v : Light). Tells v one) (laws.once header plan (events_of frames) verdict again is was) told) twice
+        tells_once again one other (subst (λ (v : Light). TellsVerdict v one) (laws.once header plan (frame_events frames) verdict again is was) told) twice
     by_once false one other (inl (reason, lie, text)) (inl (why, also, again)) =
         text ∙ ap (λ (r : Reason). refusal r (length frames)) (refused_once header (event_in frame) reason why lie also) ∙ sym again
     by_once false one other (inl (reason, lie, text)) (inr (proved, due)) = absurd (apart reason lie proved)
     by_once false one other (inr (proved, due)) (inl (reason, lie, text)) = absurd (apart reason lie proved)
     by_once false one other (inr (proved, (before, now, was, is, text))) (inr (also, (earlier, then, had, has, again))) =
-        text ∙ ap₂ news (laws.state_once header plan (events_of frames) before earlier was had)
-        (laws.state_once header plan (events_of (frames ++ frame ∷ [])) now then is has) ∙ sym again
+        text ∙ ap₂ said_unasked (laws.state_once header plan (frame_events frames) before earlier was had)
+        (laws.state_once header plan (frame_events (frames ++ frame ∷ [])) now then is has) ∙ sym again
 
     -- the reply to a frame
-    pub replies_once : (one other : List ℕ) → Replies header plan frames frame one → Replies header plan frames frame other → one ≡ other
+    pub replies_once : (one other : List ℕ) → RepliesWatching header plan frames frame one → RepliesWatching header plan frames frame other → one ≡ other
     replies_once one other a b = by_once (asks_state frame) one other a.0 b.0

@@ -15,7 +15,7 @@ use Rattle.light_node.specs.declared.events.LightState.{LightState}
 use Rattle.light_node.specs.declared.events.LightState.TheVariants as state
 use Rattle.light_node.specs.declared.events.Light.TheVariants as light
 use Rattle.light_node.specs.Events.{NoneAccepted, IsFirstAccepted, AllShown, AreWaitedFor, IsState, IsLight}
-use Rattle.light_node.specs.Plans.{IsPlan}
+use Rattle.light_node.specs.Plans.{IsPlanOf}
 use Rattle.da_wire.specs.declared.frames.Frame.{Frame}
 use Rattle.da_wire.specs.declared.frames.Frame.TheVariants.{State}
 use Rattle.da_wire.specs.Spelling.{spelling}
@@ -65,7 +65,7 @@ some_wait header plan events cells k list width same some none are =
 -- ---- plans
 
 -- the plan of a picker that answers exactly these cells are these cells
-pub plan_is : {F : Type 0} (picks : F → ℕ → Cell → Type 0) (pick : F) (plan cells : List Cell) → PicksOf picks pick cells → IsPlan picks pick plan → length plan ≡ length cells
+pub plan_is : {F : Type 0} (picks : F → ℕ → Cell → Type 0) (pick : F) (plan cells : List Cell) → PicksOf picks pick cells → IsPlanOf picks pick plan → length plan ≡ length cells
     → plan ≡ cells
 plan_is picks pick plan cells of is count = same_lists plan cells count (λ i d below.
     let cell = get_or plan i d in

@@ -8,7 +8,7 @@ use Rattle.axis_roots.specs.Messages.{message_refusal}
 use Rattle.axis_roots.specs.Claims.{ClaimParts, Accepts}
 use Rattle.befp_verify.specs.declared.verifying.FraudRefusal.{FraudRefusal}
 use Rattle.befp_verify.specs.declared.verifying.FraudRefusal.TheVariants as fraud
-use Rattle.befp_verify.specs.Refusals.{HasCause}
+use Rattle.befp_verify.specs.Refusals.{HasFraudCause}
 use Rattle.light_node.specs.declared.events.Event.{Event}
 use Rattle.light_node.specs.declared.events.Event.TheVariants.{Sample, Claim}
 use Rattle.light_node.specs.declared.events.LightState.{LightState}
@@ -33,8 +33,8 @@ use Rattle.da_talk.specs.Replies.{refusal}
 -- ---- frames
 
 -- the samples and claims of the grammar among frames, in their order
-abbrev pub events_of : List Raw → List Event
-events_of frames = events_in (fed frames)
+abbrev pub frame_events : List Raw → List Event
+frame_events frames = events_in (fed frames)
 
 -- ---- verdicts
 
@@ -43,21 +43,21 @@ abbrev pub state_frame : List ℕ
 state_frame = frame state_kind state_payload
 
 -- the text of a verdict: a state where each drawn cell is shown, the cells that are waited for, or the claim
-abbrev pub Tells : Light → List ℕ → Type 0
-Tells light.Available text = text ≡ state_frame
-Tells (light.Waiting cells) text = spelling (frames.Missing cells) ≡ Some text
-Tells (light.Rejected claim) text = spelling (frames.Fraud claim) ≡ Some text
+abbrev pub TellsVerdict : Light → List ℕ → Type 0
+TellsVerdict light.Available text = text ≡ state_frame
+TellsVerdict (light.Waiting cells) text = spelling (frames.Missing cells) ≡ Some text
+TellsVerdict (light.Rejected claim) text = spelling (frames.Fraud claim) ≡ Some text
 
 -- the status that goes with it
-abbrev pub status_of : Light → Status
-status_of light.Available = Done
-status_of (light.Waiting cells) = Waiting (length cells.list)
-status_of (light.Rejected claim) = Fraud claim.axis claim.index
+abbrev pub light_status : Light → Status
+light_status light.Available = Done
+light_status (light.Waiting cells) = Waiting (length cells.list)
+light_status (light.Rejected claim) = Fraud claim.axis claim.index
 
 -- what is said unasked where a state became another: a state frame where no drawn cell waits any more
-abbrev pub news : LightState → LightState → List ℕ
-news state.Waiting state.Available = state_frame
-news before now = []
+abbrev pub said_unasked : LightState → LightState → List ℕ
+said_unasked state.Waiting state.Available = state_frame
+said_unasked before now = []
 
 -- ---- lies
 
@@ -74,7 +74,7 @@ IsRefusedAs header None reason = reason ≡ NoSuchFrame
 IsRefusedAs header (Some (Sample m)) reason =
     (why : CheckRefusal) × (message_refusal header m ≡ Some why) × (reason ≡ sample_reason why)
 IsRefusedAs header (Some (Claim claim)) reason =
-    (why : FraudRefusal) × HasCause header claim (Some why) × (reason ≡ claim_reason why)
+    (why : FraudRefusal) × HasFraudCause header claim (Some why) × (reason ≡ claim_reason why)
 
 -- a frame is a lie, for this reason: no sample and no claim of the grammar, a sample that isn't proved, or a claim that
 -- isn't accepted
@@ -89,19 +89,19 @@ pub record IsFalseAccusal (header : Roots) (found : Option ClaimParts) (reason :
 -- ---- what is due, where these cells were drawn under a header
 
 -- before the first frame: a state frame where there is no drawn cell
-abbrev pub Begins : Roots → List Cell → List ℕ → Type 0
-Begins header plan text = (now : LightState) × IsState header plan [] now × (text ≡ news state.Waiting now)
+abbrev pub BeginsWatching : Roots → List Cell → List ℕ → Type 0
+BeginsWatching header plan text = (now : LightState) × IsState header plan [] now × (text ≡ said_unasked state.Waiting now)
 
 -- to a frame that asks for the state, behind others: the verdict over them
 abbrev pub RepliesToAsked : Roots → List Cell → List Raw → List ℕ → Type 0
 RepliesToAsked header plan frames text =
-    (verdict : Light) × IsLight header plan (events_of frames) verdict × Tells verdict text
+    (verdict : Light) × IsLight header plan (frame_events frames) verdict × TellsVerdict verdict text
 
 -- to a proved sample behind others: nothing, but a state frame where its cell was the last that waited
 abbrev pub RepliesToProved : Roots → List Cell → List Raw → Raw → List ℕ → Type 0
 RepliesToProved header plan frames frame text = (before now : LightState)
-    × IsState header plan (events_of frames) before
-    × IsState header plan (events_of (frames ++ frame ∷ [])) now × (text ≡ news before now)
+    × IsState header plan (frame_events frames) before
+    × IsState header plan (frame_events (frames ++ frame ∷ [])) now × (text ≡ said_unasked before now)
 
 -- to any other frame: a refusal of a lie, with its number
 abbrev pub RepliesToFed : Roots → List Cell → List Raw → Raw → List ℕ → Type 0
@@ -115,17 +115,17 @@ RepliesBy true header plan frames frame text = RepliesToAsked header plan frames
 RepliesBy false header plan frames frame text = RepliesToFed header plan frames frame text
 
 -- the reply to a frame behind others, where no claim was accepted so far: the talk goes on
-abbrev pub Replies : Roots → List Cell → List Raw → Raw → List ℕ → Type 0
-Replies header plan frames frame text = RepliesBy (asks_state frame) header plan frames frame text
-    × NoneAccepted header (events_of (frames ++ frame ∷ []))
+abbrev pub RepliesWatching : Roots → List Cell → List Raw → Raw → List ℕ → Type 0
+RepliesWatching header plan frames frame text = RepliesBy (asks_state frame) header plan frames frame text
+    × NoneAccepted header (frame_events (frames ++ frame ∷ []))
 
 -- the last words where the last of these frames is the first claim that is accepted: the claim, with its status
 abbrev pub Decides : Roots → List Raw → List ℕ → Status → Type 0
-Decides header frames text status = (claim : ClaimParts) × IsFirstAccepted header (events_of frames) (Some claim)
-    × Tells (light.Rejected claim) text × (status ≡ status_of (light.Rejected claim))
+Decides header frames text status = (claim : ClaimParts) × IsFirstAccepted header (frame_events frames) (Some claim)
+    × TellsVerdict (light.Rejected claim) text × (status ≡ light_status (light.Rejected claim))
 
 -- the last words where the bytes ended behind these frames: the verdict over them, with its status
-abbrev pub Ends : Roots → List Cell → List Raw → List ℕ → Status → Type 0
-Ends header plan frames text status = NoneAccepted header (events_of frames)
-    × (verdict : Light) × IsLight header plan (events_of frames) verdict × Tells verdict text
-    × (status ≡ status_of verdict)
+abbrev pub EndsWatching : Roots → List Cell → List Raw → List ℕ → Status → Type 0
+EndsWatching header plan frames text status = NoneAccepted header (frame_events frames)
+    × (verdict : Light) × IsLight header plan (frame_events frames) verdict × TellsVerdict verdict text
+    × (status ≡ light_status verdict)

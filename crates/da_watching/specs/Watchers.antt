@@ -11,7 +11,7 @@ use Rattle.light_node.specs.declared.events.Event.{Event}
 use Rattle.light_node.specs.declared.events.Event.TheVariants.{Sample}
 use Rattle.light_node.specs.declared.events.LightState.{LightState}
 use Rattle.light_node.specs.Events.{IsFirstAccepted, IsState}
-use Rattle.light_node.specs.Nodes.{NodeParts, StandsFor}
+use Rattle.light_node.specs.Nodes.{NodeParts, NodeStands}
 use Rattle.da_wire.specs.Reading.{Raw}
 use Rattle.da_status.specs.declared.status.Status.{Status}
 use Rattle.da_talk.specs.declared.line.Line as line
@@ -21,7 +21,7 @@ use Rattle.da_talk.specs.Told.{HasTold}
 use Rattle.da_talk.specs.Replies.{refusal}
 use Rattle.da_watching.specs.Sizes.{most_claim, most_said}
 use Rattle.da_talk.specs.Reasons.{sample_reason}
-use Rattle.da_watching.specs.Watched.{events_of, news, Begins, Replies, Decides, Ends}
+use Rattle.da_watching.specs.Watched.{frame_events, said_unasked, BeginsWatching, RepliesWatching, Decides, EndsWatching}
 
 -- ---- watchers
 
@@ -39,8 +39,8 @@ abbrev pub PicksOf : {F : Type 0} → (F → ℕ → Cell → Type 0) → F → 
 PicksOf picks pick plan = (number : ℕ) (cell : Cell) → picks pick number cell → slice_get plan number ≡ Some cell
 
 -- nothing was said to it yet
-pub record IsFresh {F : Type 0} (picks : F → ℕ → Cell → Type 0) (watcher : WatchParts F) : Type 0 where
-  pub node : StandsFor picks watcher.node watcher.plan []
+pub record IsFreshWatcher {F : Type 0} (picks : F → ℕ → Cell → Type 0) (watcher : WatchParts F) : Type 0 where
+  pub node : NodeStands picks watcher.node watcher.plan []
   pub claim : watcher.claim ≡ None
 
 -- from the first watcher on these frames led to the second: it keeps the first claim that is accepted, and until one is, its
@@ -48,8 +48,8 @@ pub record IsFresh {F : Type 0} (picks : F → ℕ → Cell → Type 0) (watcher
 pub record HasFed {F : Type 0} (picks : F → ℕ → Cell → Type 0) (first now : WatchParts F) (frames : List Raw) : Type 0 where
   pub header : now.header ≡ first.header
   pub plan : now.plan ≡ first.plan
-  pub node : now.claim ≡ None → StandsFor picks now.node first.plan (events_of frames)
-  pub claim : IsFirstAccepted first.header (events_of frames) now.claim
+  pub node : now.claim ≡ None → NodeStands picks now.node first.plan (frame_events frames)
+  pub claim : IsFirstAccepted first.header (frame_events frames) now.claim
 
 -- a watcher took a sample with a number: one that isn't proved is refused, and changes nothing; another is taken by its node, and
 -- said is what is due then
@@ -57,9 +57,9 @@ abbrev pub HasSeen : {F : Type 0} → (F → ℕ → Cell → Type 0) → WatchP
 HasSeen picks old new m number text =
     ((why : CheckRefusal) × (message_refusal old.header m ≡ Some why) × (text ≡ refusal (sample_reason why) number) × (new ≡ old)
     × (IsProved old.header m → ⊥))
-    ⊎ (IsProved old.header m × ((plan : List Cell) (events : List Event) → StandsFor picks old.node plan events
-    → StandsFor picks new.node plan (events ++ Sample m ∷ []) × (before now : LightState)
-    × IsState old.header plan events before × IsState old.header plan (events ++ Sample m ∷ []) now × (text ≡ news before now)))
+    ⊎ (IsProved old.header m × ((plan : List Cell) (events : List Event) → NodeStands picks old.node plan events
+    → NodeStands picks new.node plan (events ++ Sample m ∷ []) × (before now : LightState)
+    × IsState old.header plan events before × IsState old.header plan (events ++ Sample m ∷ []) now × (text ≡ said_unasked before now)))
 
 -- ---- talks
 
@@ -73,11 +73,11 @@ watching header plan = record {
   longest = λ status. most_claim;
   most = λ status. most_said header.k;
   takes_memory = λ status. ⊥;
-  begins = λ first text. Begins header plan text;
-  replies = λ first frames frame text. Replies header plan frames frame text;
+  begins = λ first text. BeginsWatching header plan text;
+  replies = λ first frames frame text. RepliesWatching header plan frames frame text;
   refuses = λ first frames frame. ⊥;
   decides = λ first now frames text. Decides header frames text now;
-  ends = λ first now frames text. Ends header plan frames text now;
+  ends = λ first now frames text. EndsWatching header plan frames text now;
 }
 
 -- a talk with a watcher: what was said to its frames and when, how it ended, and the status that goes with its last words

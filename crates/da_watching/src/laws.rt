@@ -14,7 +14,7 @@ ghost use Rattle.da_judging.specs.Light.{Judges};
 ghost use Rattle.da_judging.specs.Verify.{check_number, fraud_number};
 ghost use Rattle.da_talk.specs.Reasons.{sample_reason};
 ghost use Rattle.da_talk.specs.Handed.{fed};
-ghost use Rattle.da_watching.specs.Watched.{claim_reason, IsLie, state_frame, Begins, Replies, Decides, Ends};
+ghost use Rattle.da_watching.specs.Watched.{claim_reason, IsLie, state_frame, BeginsWatching, RepliesWatching, Decides, EndsWatching};
 
 use axis_roots::message_laws;
 use light_node::light_laws;
@@ -31,16 +31,16 @@ pub fn watch_laws()
 
     // What is due is one text, and one status goes with the last words: how the bytes are cut changes nothing.
     ensures begins { (header : Roots) (plan : List Cell) (one other : List ℕ) →
-        Begins header plan one → Begins header plan other → one ≡ other }
+        BeginsWatching header plan one → BeginsWatching header plan other → one ≡ other }
     ensures replies { (header : Roots) (plan : List Cell) (frames : List Raw) (frame : Raw)
-        (one other : List ℕ) → AreRoots header → Replies header plan frames frame one →
-        Replies header plan frames frame other → one ≡ other }
+        (one other : List ℕ) → AreRoots header → RepliesWatching header plan frames frame one →
+        RepliesWatching header plan frames frame other → one ≡ other }
     ensures decides { (header : Roots) (frames : List Raw) (one other : List ℕ)
         (status kept : Status) → Decides header frames one status → Decides header frames other kept →
         (one ≡ other) × (status ≡ kept) }
     ensures ends { (header : Roots) (plan : List Cell) (frames : List Raw) (one other : List ℕ)
-        (status kept : Status) → Ends header plan frames one status →
-        Ends header plan frames other kept → (one ≡ other) × (status ≡ kept) }
+        (status kept : Status) → EndsWatching header plan frames one status →
+        EndsWatching header plan frames other kept → (one ≡ other) × (status ≡ kept) }
 
     // The last words are what `light` writes of the frames that don't ask for the state, with its status: where its line is
     // `available`, a state frame.
@@ -48,7 +48,7 @@ pub fn watch_laws()
         (status : Status) →
         Decides header frames text status → Judges header plan (fed frames) text status }
     ensures ended { (header : Roots) (plan : List Cell) (frames : List Raw) (text : List ℕ)
-        (status : Status) → Ends header plan frames text status →
+        (status : Status) → EndsWatching header plan frames text status →
         (w : List ℕ) × Judges header plan (fed frames) w status
         × ((w ≡ text) ⊎ ((w ≡ codes "available\n") × (text ≡ state_frame))) }
 {

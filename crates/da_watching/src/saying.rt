@@ -6,9 +6,9 @@ ghost use Rattle.light_node.specs.declared.events.Event.{Event as Happened};
 ghost use Rattle.light_node.specs.declared.events.Light.{Light};
 ghost use Rattle.light_node.specs.declared.events.Light.TheVariants as verdict;
 ghost use Rattle.light_node.specs.Events.{NoneAccepted, IsLight};
-ghost use Rattle.light_node.specs.Nodes.{StandsFor};
+ghost use Rattle.light_node.specs.Nodes.{NodeStands};
 ghost use Rattle.da_watching.specs.Sizes.{most_claim, most_said};
-ghost use Rattle.da_watching.specs.Watched.{Tells, status_of, news, claim_reason};
+ghost use Rattle.da_watching.specs.Watched.{TellsVerdict, light_status, said_unasked, claim_reason};
 
 use axis_roots::claim_law;
 use befp_verify::{FraudRefusal, Upheld};
@@ -35,7 +35,7 @@ pub(crate) fn claim_reason(why: FraudRefusal) -> Reason
 pub(crate) fn put_news(before: LightState, now: LightState, text: &mut Vec<u8>)
     requires empty { text.old.items ≡ [] }
     requires room { 5 ≤ vec_capacity text.old }
-    ensures written { text.new.items ≡ news before now }
+    ensures written { text.new.items ≡ said_unasked before now }
     ensures capacity { vec_capacity text.old ≤ vec_capacity text.new }
 {
     if let (LightState::Waiting, LightState::Available) = (before, now) {
@@ -55,9 +55,9 @@ pub(crate) fn put_verdict<F: Picker>(
     requires empty { text.old.items ≡ [] }
     requires room { most_said node.now.header.k ≤ vec_capacity text.old }
     ensures written { (plan : List Place) (events : List Happened) →
-        StandsFor F.picks node.now plan events → NoneAccepted node.now.header events →
-        (light : Light) × IsLight node.now.header plan events light × Tells light text.new.items
-        × (result ≡ status_of light) }
+        NodeStands F.picks node.now plan events → NoneAccepted node.now.header events →
+        (light : Light) × IsLight node.now.header plan events light × TellsVerdict light text.new.items
+        × (result ≡ light_status light) }
     ensures cells { cells.new.k ≡ cells.old.k }
     ensures capacity { vec_capacity text.old ≤ vec_capacity text.new }
 {
@@ -78,8 +78,8 @@ pub(crate) fn put_verdict<F: Picker>(
 pub(crate) fn put_claim(upheld: &Upheld, text: &mut Vec<u8>) -> Status
     requires empty { text.old.items ≡ [] }
     requires room { 5 + most_claim ≤ vec_capacity text.old }
-    ensures written { Tells (verdict.Rejected upheld.now) text.new.items }
-    ensures status { result ≡ status_of (verdict.Rejected upheld.now) }
+    ensures written { TellsVerdict (verdict.Rejected upheld.now) text.new.items }
+    ensures status { result ≡ light_status (verdict.Rejected upheld.now) }
 {
     wire_laws();
     let claim = upheld.claim();

@@ -8,8 +8,8 @@ ghost use Rattle.frame_payloads.specs.kinds.Fraud.{fraud_at};
 ghost use Rattle.light_node.specs.Plans.{PicksInside};
 ghost use Rattle.da_talk.specs.Replies.{refusal};
 ghost use Rattle.da_watching.specs.Sizes.{most_claim, most_said};
-ghost use Rattle.da_watching.specs.Watched.{Begins, Replies, Decides, Ends, IsFalseAccusal};
-ghost use Rattle.da_watching.specs.Watchers.{PicksOf, IsFresh, HasFed, HasSeen};
+ghost use Rattle.da_watching.specs.Watched.{BeginsWatching, RepliesWatching, Decides, EndsWatching, IsFalseAccusal};
+ghost use Rattle.da_watching.specs.Watchers.{PicksOf, IsFreshWatcher, HasFed, HasSeen};
 
 use crate::handed::{Handed, handed_in};
 use crate::saying::{claim_reason, put_claim, put_news, put_verdict};
@@ -147,7 +147,7 @@ impl<'a, F: Picker> Watcher<'a, F> {
         requires picks { PicksOf F.picks pick planned.now }
         ensures header { IfOk result (λ watcher. watcher.header ≡ header.now) }
         ensures plan { IfOk result (λ watcher. watcher.plan ≡ planned.now) }
-        ensures fresh { IfOk result (IsFresh F.picks) }
+        ensures fresh { IfOk result (IsFreshWatcher F.picks) }
     {
         let count = planned.len() as u32;
         let cells = CellRoom::new(alloc, header.k)?;
@@ -221,7 +221,7 @@ impl<'a, F: Picker> Watcher<'a, F> {
 }
 
 impl<'a, F: Picker> Talker for Watcher<'a, F> {
-    ghost is_fresh = { λ w. IsFresh F.picks w };
+    ghost is_fresh = { λ w. IsFreshWatcher F.picks w };
 
     ghost led = { λ first now frames. HasFed F.picks first now frames };
 
@@ -233,15 +233,15 @@ impl<'a, F: Picker> Talker for Watcher<'a, F> {
 
     ghost takes_memory = { λ w. ⊥ };
 
-    ghost begins = { λ first text. Begins first.header first.plan text };
+    ghost begins = { λ first text. BeginsWatching first.header first.plan text };
 
-    ghost replies = { λ first frames frame text. Replies first.header first.plan frames frame text };
+    ghost replies = { λ first frames frame text. RepliesWatching first.header first.plan frames frame text };
 
     ghost refuses = { λ first frames frame. ⊥ };
 
     ghost decides = { λ first now frames text. Decides first.header frames text now.status };
 
-    ghost ends = { λ first now frames text. Ends first.header first.plan frames text now.status };
+    ghost ends = { λ first now frames text. EndsWatching first.header first.plan frames text now.status };
 
     fn begin(&mut self, text: &mut Vec<u8>) {
         put_news(LightState::Waiting, self.node.state(), text);

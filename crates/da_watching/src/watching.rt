@@ -5,7 +5,7 @@ ghost use Rattle.da_io.specs.declared.inputs.Ended.TheVariants as call;
 ghost use Rattle.da_io.specs.Faults.{count_on};
 ghost use Rattle.da_talk.specs.Told.{last_heard, hear_count, say_count};
 ghost use Rattle.da_watching.specs.Sizes.{most_claim, most_said};
-ghost use Rattle.da_watching.specs.Watchers.{IsFresh, HasWatched};
+ghost use Rattle.da_watching.specs.Watchers.{IsFreshWatcher, HasWatched};
 
 use crate::{MOST_CLAIM, Watcher};
 use da_talk::{Line, TalkEnd, talk};
@@ -26,7 +26,7 @@ pub fn watch<L: Line, F: Picker>(
     text: &mut Vec<u8>,
     line: &mut L,
 ) -> TalkEnd
-    requires fresh { IsFresh F.picks watcher.old }
+    requires fresh { IsFreshWatcher F.picks watcher.old }
     requires room { 5 + most_claim ≤ vec_capacity room.old }
     requires text { most_said watcher.old.header.k ≤ vec_capacity text.old }
     ensures talk { HasWatched L.Line line.old line.new watcher.old.header watcher.old.plan

@@ -6,20 +6,20 @@ use Rattle.da_wire.specs.declared.streams.Pushed.{Pushed}
 use Rattle.da_wire.specs.declared.streams.Pushed.TheVariants as pushed
 use Rattle.da_wire.specs.Reading.{Raw}
 use Rattle.da_wire.specs.Walks.{walk_from}
-use Rattle.da_wire.specs.Frames.{raw_in, frames_of, message_in}
+use Rattle.da_wire.specs.Frames.{raw_in, frames_of, raw_message}
 use Rattle.da_wire.specs.Streams.{EndsFrame, Push, ArePushes, taken_by, answered, messages_in, EveryCutting, FramesStay}
 use Rattle.da_wire.proofs.StreamWalks.{walk_grows}
 use Rattle.da_wire.proofs.StreamLemmas.{steady}
 
 -- the samples of frames
 abbrev messages : List Raw → List (Option Message)
-messages frames = map message_in frames
+messages frames = map raw_message frames
 
 -- one answer adds its frame
 one_answer : (before after : List Raw) (answer : Pushed) → EndsFrame before after answer → messages after ≡ messages before ++ messages_in answer
 one_answer before after pushed.More e = ap messages e ∙ sym (append-nil (messages before))
 one_answer before after (pushed.Frame m) e =
-    ap messages e.1 ∙ map-append message_in before (e.0 ∷ []) ∙ ap (λ (n : Option Message). messages before ++ n ∷ []) (sym e.2)
+    ap messages e.1 ∙ map-append raw_message before (e.0 ∷ []) ∙ ap (λ (n : Option Message). messages before ++ n ∷ []) (sym e.2)
 one_answer before after (pushed.Bad at) e = ap messages e ∙ sym (append-nil (messages before))
 
 -- pushes add their frames to those before

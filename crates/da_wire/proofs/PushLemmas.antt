@@ -11,11 +11,11 @@ use Rattle.da_wire.specs.declared.frames.FrameError.TheVariants.{TooLong}
 use Rattle.da_wire.specs.declared.streams.Pushed.TheVariants as pushed
 use Rattle.da_wire.specs.Spelling.{message_kind}
 use Rattle.da_wire.specs.Reading.{Raw, promised}
-use Rattle.da_wire.specs.Frames.{frames_of, message_in}
+use Rattle.da_wire.specs.Frames.{frames_of, raw_message}
 use Rattle.frame_fields.specs.Messages.{message_at}
 use Rattle.frame_payloads.specs.kinds.Message.{most_message}
-use Rattle.da_wire.specs.StreamParts.{StreamParts, front_size, under_way, is_long, front_message, front_frame, IsStream, IsUnfinished, Keeps, IsTaken}
-use Rattle.da_wire.specs.Streams.{if_short, StandsFor, IsPush, first_refusal}
+use Rattle.da_wire.specs.StreamParts.{StreamParts, kept_front, under_way, is_long, front_message, front_frame, IsStream, IsUnfinished, KeepsFront, IsTakenPiece}
+use Rattle.da_wire.specs.Streams.{if_short, StreamStands, IsPush, why_no_frame}
 use Rattle.da_wire.proofs.RawLemmas.{frame_at}
 use Rattle.frame_payloads.proofs.MessageLengths.{message_at-long}
 use Rattle.da_wire.proofs.StreamLemmas.{part_len, part_head, part_at, seen, stands_on, reached_long, reached_part, reached_whole, kept_told, stands_next, none_not_long}
@@ -26,33 +26,33 @@ use Rattle.da_wire.proofs.StreamLemmas.{part_len, part_head, part_at, seen, stan
 pub record IsStep (at taken : ℕ) (front new before piece : List ℕ) (count : ℕ) : Type 0 where
   pub begun : at ≤ taken
   pub unfinished : IsUnfinished front (taken - at)
-  pub stands : StandsFor (record { at = at; taken = taken; front = front }) before
+  pub stands : StreamStands (record { at = at; taken = taken; front = front }) before
   pub none : count ≡ 0 → new ≡ front
-  pub keeps : Keeps front_size front new (taken - at) (take count piece)
-  pub counts : IsTaken front new (taken - at) (length piece) count
+  pub keeps : KeepsFront kept_front front new (taken - at) (take count piece)
+  pub counts : IsTakenPiece front new (taken - at) (length piece) count
   pub fits : AreBytes piece
 
 -- a push of a stream whose fields these are
 pub step_of : (at taken : ℕ) (front new before piece : List ℕ) (count : ℕ) (stream : StreamParts) → record { at = at; taken = taken; front = front } ≡ stream
-    → IsStream (record { at = at; taken = taken; front = front }) → StandsFor stream before
-    → (count ≡ 0 → new ≡ front) → Keeps (length front) front new (taken - at) (take count piece) → IsTaken front new (taken - at) (length piece) count → AreBytes piece
+    → IsStream (record { at = at; taken = taken; front = front }) → StreamStands stream before
+    → (count ≡ 0 → new ≡ front) → KeepsFront (length front) front new (taken - at) (take count piece) → IsTakenPiece front new (taken - at) (length piece) count → AreBytes piece
     → IsStep at taken front new before piece count
 step_of at taken front new before piece count stream same is stands none keeps counts fits = record {
   begun = is.begun;
   unfinished = is.unfinished;
-  stands = subst (λ (s : StreamParts). StandsFor s before) (sym same) stands;
+  stands = subst (λ (s : StreamParts). StreamStands s before) (sym same) stands;
   none = none;
-  keeps = subst (λ (n : ℕ). Keeps n front new (taken - at) (take count piece)) is.room keeps;
+  keeps = subst (λ (n : ℕ). KeepsFront n front new (taken - at) (take count piece)) is.room keeps;
   counts = counts;
   fits = fits;
 }
 
 -- the stream after a push stands for the bytes that it took too
 pub step_stands : (at taken : ℕ) (front new before piece : List ℕ) (count : ℕ) → IsStep at taken front new before piece count
-    → StandsFor (record { at = at; taken = taken + count; front = new }) (before ++ take count piece)
+    → StreamStands (record { at = at; taken = taken + count; front = new }) (before ++ take count piece)
 step_stands at taken front new before piece count step =
     let len : length (take count piece) ≡ count = length-take-le count piece step.counts.within in
-    subst (λ (n : ℕ). StandsFor (record { at = at; taken = taken + n; front = new }) (before ++ take count piece)) len
+    subst (λ (n : ℕ). StreamStands (record { at = at; taken = taken + n; front = new }) (before ++ take count piece)) len
     (stands_on at taken front new before (take count piece) step.begun step.stands (λ none. step.none (sym len ∙ none)) step.keeps (AreBytes-take count piece step.fits))
 
 -- the frames before the one under way stay
@@ -77,7 +77,7 @@ step_short at taken front new before piece count step short =
 
 -- then no refusal before it was one of length
 step_fine : (at taken : ℕ) (front new before piece : List ℕ) (count here : ℕ) → IsStep at taken front new before piece count
-    → is_long new (taken - at + count) ≡ false → first_refusal before ≡ Some (TooLong here) → ⊥
+    → is_long new (taken - at + count) ≡ false → why_no_frame before ≡ Some (TooLong here) → ⊥
 step_fine at taken front new before piece count here step short e =
     (seen (record { at = at; taken = taken; front = front }) before step.begun step.unfinished step.stands).short (step_short at taken front new before piece count step short) here e
 
@@ -151,11 +151,11 @@ none_made false false false x y f g = refl
 none_made a true c x y f g = absurd cc
 
 -- a frame that the room holds is the first bytes of the room
-part_room : (s : StreamParts) (bytes : List ℕ) → StandsFor s bytes → under_way s ≤ front_size → drop s.at bytes ≡ take (under_way s) s.front
-part_room s bytes stands h = sym (take_all front_size (drop s.at bytes) (omega (arith, part_len s bytes stands, h))) ∙ stands.front
+part_room : (s : StreamParts) (bytes : List ℕ) → StreamStands s bytes → under_way s ≤ kept_front → drop s.at bytes ≡ take (under_way s) s.front
+part_room s bytes stands h = sym (take_all kept_front (drop s.at bytes) (omega (arith, part_len s bytes stands, h))) ∙ stands.front
 
 -- the payload of a frame that the room holds
-payload_same : (s : StreamParts) (bytes : List ℕ) → StandsFor s bytes → under_way s ≡ 5 + promised s.front → 5 + promised s.front ≤ front_size
+payload_same : (s : StreamParts) (bytes : List ℕ) → StreamStands s bytes → under_way s ≡ 5 + promised s.front → 5 + promised s.front ≤ kept_front
     → take (promised s.front) (drop 5 s.front) ≡ (frame_at (drop s.at bytes)).payload
 payload_same s bytes stands whole h =
     let p : ℕ = promised s.front in
@@ -167,27 +167,27 @@ payload_same s bytes stands whole h =
     ∙ take-take p p (drop 5 s.front) (omega arith))
 
 -- the kind of a frame
-kind_same : (s : StreamParts) (bytes : List ℕ) → StandsFor s bytes → 5 ≤ under_way s → get_or s.front 0 0 ≡ get_or (drop s.at bytes) 0 0
+kind_same : (s : StreamParts) (bytes : List ℕ) → StreamStands s bytes → 5 ≤ under_way s → get_or s.front 0 0 ≡ get_or (drop s.at bytes) 0 0
 kind_same s bytes stands h =
-    sym (get_or-take (under_way s) s.front 0 0 (omega (arith, h))) ∙ ap (λ (l : List ℕ). get_or l 0 0) (sym stands.front) ∙ get_or-take front_size (drop s.at bytes) 0 0 (omega arith)
+    sym (get_or-take (under_way s) s.front 0 0 (omega (arith, h))) ∙ ap (λ (l : List ℕ). get_or l 0 0) (sym stands.front) ∙ get_or-take kept_front (drop s.at bytes) 0 0 (omega arith)
 
 -- the sample in the room is that of the whole frame
-message_same : (s : StreamParts) (bytes : List ℕ) → StandsFor s bytes → under_way s ≡ 5 + promised s.front → front_message s.front ≡ message_in (frame_at (drop s.at bytes))
+message_same : (s : StreamParts) (bytes : List ℕ) → StreamStands s bytes → under_way s ≡ 5 + promised s.front → front_message s.front ≡ raw_message (frame_at (drop s.at bytes))
 message_same s bytes stands whole =
     let raw : Raw = frame_at (drop s.at bytes) in
     let head : promised (drop s.at bytes) ≡ promised s.front = part_head s bytes stands (omega (arith, whole)) in
     let kept : Option Message = message_at (take (promised s.front) (drop 5 s.front)) in
     let kind : eqb (get_or s.front 0 0) message_kind ≡ eqb raw.kind message_kind = ap (λ (n : ℕ). eqb n message_kind) (kind_same s bytes stands (omega (arith, whole))) in
     ⊎_elim
-    (λ (h : front_size < 5 + promised s.front).
+    (λ (h : kept_front < 5 + promised s.front).
     let long : length raw.payload ≡ promised s.front =
     length-take-le (promised (drop s.at bytes)) (drop 5 (drop s.at bytes)) (omega (arith, head, whole, part_len s bytes stands, length-drop 5 (drop s.at bytes))) ∙ head in
-    none_made (eqb (get_or s.front 0 0) message_kind) (leb (5 + promised s.front) front_size) (eqb raw.kind message_kind) kept (message_at raw.payload)
-    (lt-leb (5 + promised s.front) front_size h) (message_at-long raw.payload (AreBytes-take (promised (drop s.at bytes)) (drop 5 (drop s.at bytes)) (AreBytes-drop 5 (drop s.at bytes) (AreBytes-drop s.at bytes stands.fits))) (omega (arith, long, h))))
-    (λ (h : 5 + promised s.front ≤ front_size).
-    both_made (eqb (get_or s.front 0 0) message_kind) (leb (5 + promised s.front) front_size) (eqb raw.kind message_kind) kept (message_at raw.payload)
-    kind (le-leb (5 + promised s.front) front_size h) (ap message_at (payload_same s bytes stands whole h)))
-    (cases_lt front_size (5 + promised s.front))
+    none_made (eqb (get_or s.front 0 0) message_kind) (leb (5 + promised s.front) kept_front) (eqb raw.kind message_kind) kept (message_at raw.payload)
+    (lt-leb (5 + promised s.front) kept_front h) (message_at-long raw.payload (AreBytes-take (promised (drop s.at bytes)) (drop 5 (drop s.at bytes)) (AreBytes-drop 5 (drop s.at bytes) (AreBytes-drop s.at bytes stands.fits))) (omega (arith, long, h))))
+    (λ (h : 5 + promised s.front ≤ kept_front).
+    both_made (eqb (get_or s.front 0 0) message_kind) (leb (5 + promised s.front) kept_front) (eqb raw.kind message_kind) kept (message_at raw.payload)
+    kind (le-leb (5 + promised s.front) kept_front h) (ap message_at (payload_same s bytes stands whole h)))
+    (cases_lt kept_front (5 + promised s.front))
 
 -- tests that are one
 both_tests : {A : Type 0} (a b : Bool) (x y : A) → a ≡ b → x ≡ y → cond a (Some x) None ≡ cond b (Some y) None
@@ -197,7 +197,7 @@ both_tests true false x y e f = absurd cc
 both_tests false true x y e f = absurd cc
 
 -- the frame in the room is the whole frame, where it is short
-frame_same : (s : StreamParts) (bytes : List ℕ) → StandsFor s bytes → under_way s ≡ 5 + promised s.front → if_short (frame_at (drop s.at bytes)) ≡ front_frame s.front
+frame_same : (s : StreamParts) (bytes : List ℕ) → StreamStands s bytes → under_way s ≡ 5 + promised s.front → if_short (frame_at (drop s.at bytes)) ≡ front_frame s.front
 frame_same s bytes stands whole =
     let raw : Raw = frame_at (drop s.at bytes) in
     let p : ℕ = promised s.front in
@@ -205,21 +205,21 @@ frame_same s bytes stands whole =
     let long : length raw.payload ≡ p =
     length-take-le (promised (drop s.at bytes)) (drop 5 (drop s.at bytes)) (omega (arith, head, whole, part_len s bytes stands, length-drop 5 (drop s.at bytes))) ∙ head in
     ⊎_elim
-    (λ (h : front_size < 5 + p).
+    (λ (h : kept_front < 5 + p).
     ap (λ (b : Bool). cond b (Some raw) None) (lt-leb (length raw.payload) most_message (omega (arith, long, h)))
-    ∙ sym (ap (λ (b : Bool). cond b (Some (frame_at s.front)) None) (lt-leb (5 + p) front_size h)))
-    (λ (h : 5 + p ≤ front_size).
+    ∙ sym (ap (λ (b : Bool). cond b (Some (frame_at s.front)) None) (lt-leb (5 + p) kept_front h)))
+    (λ (h : 5 + p ≤ kept_front).
     let same : raw ≡ frame_at s.front =
     ap (λ (n : ℕ). record { kind = get_or (drop s.at bytes) 0 0; payload = raw.payload; size = 5 + n }) head
     ∙ ap₂ (λ (n : ℕ) (l : List ℕ). record { kind = n; payload = l; size = 5 + p }) (sym (kind_same s bytes stands (omega (arith, whole)))) (sym (payload_same s bytes stands whole h)) in
-    both_tests (leb (length raw.payload) most_message) (leb (5 + p) front_size) raw (frame_at s.front)
-    (le-leb (length raw.payload) most_message (omega (arith, long, h)) ∙ sym (le-leb (5 + p) front_size h)) same)
-    (cases_lt front_size (5 + p))
+    both_tests (leb (length raw.payload) most_message) (leb (5 + p) kept_front) raw (frame_at s.front)
+    (le-leb (length raw.payload) most_message (omega (arith, long, h)) ∙ sym (le-leb (5 + p) kept_front h)) same)
+    (cases_lt kept_front (5 + p))
 
 -- behind a whole frame the next begins
 pub step_next : (at taken : ℕ) (front new before piece : List ℕ) (count : ℕ) → IsStep at taken front new before piece count
     → is_long new (taken - at + count) ≡ false → 5 + promised new ≤ taken - at + count
-    → StandsFor (record { at = taken + count; taken = taken + count; front = new }) (before ++ take count piece)
+    → StreamStands (record { at = taken + count; taken = taken + count; front = new }) (before ++ take count piece)
 step_next at taken front new before piece count step short enough =
     let have : taken + count - at ≡ taken - at + count = step_have at taken count step.begun in
     let s : StreamParts = record { at = at; taken = taken + count; front = new } in
@@ -248,7 +248,7 @@ push_frame at taken front new before piece count step short enough =
     (cases_lt 0 count) in
     record {
       frame = (λ e. (some, r.bad), λ p. tt);
-      bad = λ here. (λ e. absurd cc, λ e. absurd (none_not_long here (first_refusal (before ++ take count piece)) r.refusal e));
+      bad = λ here. (λ e. absurd cc, λ e. absurd (none_not_long here (why_no_frame (before ++ take count piece)) r.refusal e));
       whole = λ e. absurd cc;
       frames = (
         frame_at (drop at (before ++ take count piece)),

@@ -12,8 +12,8 @@ use Rattle.da_wire.specs.declared.frames.FrameError.TheVariants.{Truncated, TooL
 use Rattle.da_wire.specs.Reading.{Raw, promised, raw_of}
 use Rattle.da_wire.specs.Frames.{ok_of, raw_in, frames_of, bad_frame}
 use Rattle.da_wire.specs.Walks.{walk_from, stop_from}
-use Rattle.da_wire.specs.StreamParts.{StreamParts, front_size, under_way, is_long, front_frame, IsUnfinished, Keeps}
-use Rattle.da_wire.specs.Streams.{last_of, if_short, kept_frame, StandsFor, err_of, refusal_at, first_refusal}
+use Rattle.da_wire.specs.StreamParts.{StreamParts, kept_front, under_way, is_long, front_frame, IsUnfinished, KeepsFront}
+use Rattle.da_wire.specs.Streams.{last_of, if_short, kept_frame, StreamStands, err_of, refusal_at, why_no_frame}
 use Rattle.frame_payloads.proofs.Fields.Readers.{map_some}
 use Rattle.da_wire.proofs.WalkLemmas.{walk_on, walk_stop, stop_on, stop_here, stop_end}
 use Rattle.da_wire.proofs.RawLemmas.{promised-take, raw_short, raw_long, raw_cut, raw_whole, frame_at, raw_of-append, ok_some}
@@ -61,7 +61,7 @@ behind at bytes h whole =
 pub record IsReached (bytes : List ℕ) (found : List Raw) (stop : Option ℕ) (why : Option FrameError) : Type 0 where
   pub frames : frames_of bytes ≡ found
   pub bad : bad_frame bytes ≡ stop
-  pub refusal : first_refusal bytes ≡ why
+  pub refusal : why_no_frame bytes ≡ why
 
 -- whole frames alone
 pub reached_end : (at : ℕ) (bytes : List ℕ) → at ≡ length bytes → bad_frame (take at bytes) ≡ None → IsReached bytes (frames_of (take at bytes)) None None
@@ -132,20 +132,20 @@ kept_none bytes none = ap kept_frame (nil_from_length bytes none)
 -- ---- a stream, and the bytes that it stands for
 
 -- the bytes of the frame under way are as many as the stream counts
-pub part_len : (s : StreamParts) (bytes : List ℕ) → StandsFor s bytes → length (drop s.at bytes) ≡ under_way s
+pub part_len : (s : StreamParts) (bytes : List ℕ) → StreamStands s bytes → length (drop s.at bytes) ≡ under_way s
 part_len s bytes stands = omega (arith, length-drop s.at bytes, stands.count)
 
 -- the head of the frame under way is that in the room
-pub part_head : (s : StreamParts) (bytes : List ℕ) → StandsFor s bytes → 5 ≤ under_way s → promised (drop s.at bytes) ≡ promised s.front
+pub part_head : (s : StreamParts) (bytes : List ℕ) → StreamStands s bytes → 5 ≤ under_way s → promised (drop s.at bytes) ≡ promised s.front
 part_head s bytes stands h =
-    sym (promised-take front_size (drop s.at bytes) (omega arith)) ∙ ap promised stands.front ∙ promised-take (under_way s) s.front h
+    sym (promised-take kept_front (drop s.at bytes) (omega arith)) ∙ ap promised stands.front ∙ promised-take (under_way s) s.front h
 
 -- the offset of the frame under way is within the bytes
-pub part_at : (s : StreamParts) (bytes : List ℕ) → s.at ≤ s.taken → StandsFor s bytes → s.at ≤ length bytes
+pub part_at : (s : StreamParts) (bytes : List ℕ) → s.at ≤ s.taken → StreamStands s bytes → s.at ≤ length bytes
 part_at s bytes begun stands = omega (arith, begun, stands.count)
 
 -- what the bytes of a stream come to where a frame is under way that isn't too long
-pub reached_part : (s : StreamParts) (bytes : List ℕ) → StandsFor s bytes → s.at < s.taken → is_long s.front (under_way s) ≡ false → under_way s < 5 + promised s.front
+pub reached_part : (s : StreamParts) (bytes : List ℕ) → StreamStands s bytes → s.at < s.taken → is_long s.front (under_way s) ≡ false → under_way s < 5 + promised s.front
     → IsReached bytes (frames_of (take s.at bytes)) (Some s.at) (Some (Truncated s.at))
 reached_part s bytes stands some short unfinished =
     let len = part_len s bytes stands in
@@ -158,7 +158,7 @@ reached_part s bytes stands some short unfinished =
     (cases_lt (under_way s) 5))
 
 -- what they come to where it is too long
-pub reached_long : (s : StreamParts) (bytes : List ℕ) → StandsFor s bytes → is_long s.front (under_way s) ≡ true
+pub reached_long : (s : StreamParts) (bytes : List ℕ) → StreamStands s bytes → is_long s.front (under_way s) ≡ true
     → IsReached bytes (frames_of (take s.at bytes)) (Some s.at) (Some (TooLong s.at))
 reached_long s bytes stands long =
     let parts = long_parts s.front (under_way s) long in
@@ -169,8 +169,8 @@ reached_long s bytes stands long =
 -- a stream's frames, and the first place at which none stands, wherever it is
 pub record IsSeen (s : StreamParts) (bytes : List ℕ) : Type 0 where
   pub frames : frames_of bytes ≡ frames_of (take s.at bytes)
-  pub long : is_long s.front (under_way s) ≡ true → first_refusal bytes ≡ Some (TooLong s.at)
-  pub short : is_long s.front (under_way s) ≡ false → (at : ℕ) → first_refusal bytes ≡ Some (TooLong at) → ⊥
+  pub long : is_long s.front (under_way s) ≡ true → why_no_frame bytes ≡ Some (TooLong s.at)
+  pub short : is_long s.front (under_way s) ≡ false → (at : ℕ) → why_no_frame bytes ≡ Some (TooLong at) → ⊥
 
 -- no such refusal is one of length
 pub none_not_long : (at : ℕ) (why : Option FrameError) → why ≡ None → why ≡ Some (TooLong at) → ⊥
@@ -180,7 +180,7 @@ cut_not_long : (here at : ℕ) (why : Option FrameError) → why ≡ Some (Trunc
 cut_not_long here at why e f = let both : ◌≡◌ {A = Option FrameError} (Some (Truncated here)) (Some (TooLong at)) = sym e ∙ f in absurd cc
 
 -- a stream's frames are those before the frame under way
-pub seen : (s : StreamParts) (bytes : List ℕ) → s.at ≤ s.taken → IsUnfinished s.front (under_way s) → StandsFor s bytes → IsSeen s bytes
+pub seen : (s : StreamParts) (bytes : List ℕ) → s.at ≤ s.taken → IsUnfinished s.front (under_way s) → StreamStands s bytes → IsSeen s bytes
 seen s bytes begun unfinished stands =
     ⊎_elim
     (λ (h : is_long s.front (under_way s) ≡ true).
@@ -190,17 +190,17 @@ seen s bytes begun unfinished stands =
     ⊎_elim
     (λ (k : s.at < s.taken).
     let r = reached_part s bytes stands k h (unfinished h) in
-    record { frames = r.frames; long = λ e. absurd (false≢true (sym h ∙ e)); short = λ e at f. cut_not_long s.at at (first_refusal bytes) r.refusal f })
+    record { frames = r.frames; long = λ e. absurd (false≢true (sym h ∙ e)); short = λ e at f. cut_not_long s.at at (why_no_frame bytes) r.refusal f })
     (λ (k : s.taken ≤ s.at).
     let r = reached_end s.at bytes (omega (arith, k, begun, stands.count)) stands.whole in
-    record { frames = r.frames; long = λ e. absurd (false≢true (sym h ∙ e)); short = λ e at f. none_not_long at (first_refusal bytes) r.refusal f })
+    record { frames = r.frames; long = λ e. absurd (false≢true (sym h ∙ e)); short = λ e at f. none_not_long at (why_no_frame bytes) r.refusal f })
     (cases_lt s.at s.taken))
     (cases_Bool (is_long s.front (under_way s)))
 
 -- ---- bytes that are taken
 
 -- a stream that took no more bytes keeps the frame that ended
-kept_on : (at taken : ℕ) (front new bytes more : List ℕ) → at ≤ taken → StandsFor (record { at = at; taken = taken; front = front }) bytes → (length more ≡ 0 → new ≡ front)
+kept_on : (at taken : ℕ) (front new bytes more : List ℕ) → at ≤ taken → StreamStands (record { at = at; taken = taken; front = front }) bytes → (length more ≡ 0 → new ≡ front)
     → 0 < taken + length more → at ≡ taken + length more → kept_frame (bytes ++ more) ≡ front_frame new
 kept_on at taken front new bytes more begun stands same some ended =
     let none : length more ≡ 0 = omega (arith, begun, ended) in
@@ -208,9 +208,9 @@ kept_on at taken front new bytes more begun stands same some ended =
     ∙ stands.kept (omega (arith, some, none)) (omega (arith, ended, none)) ∙ ap front_frame (sym (same none))
 
 -- a stream with more bytes stands for these too
-pub stands_on : (at taken : ℕ) (front new bytes more : List ℕ) → at ≤ taken → StandsFor (record { at = at; taken = taken; front = front }) bytes
-    → (length more ≡ 0 → new ≡ front) → Keeps front_size front new (taken - at) more → AreBytes more
-    → StandsFor (record { at = at; taken = taken + length more; front = new }) (bytes ++ more)
+pub stands_on : (at taken : ℕ) (front new bytes more : List ℕ) → at ≤ taken → StreamStands (record { at = at; taken = taken; front = front }) bytes
+    → (length more ≡ 0 → new ≡ front) → KeepsFront kept_front front new (taken - at) more → AreBytes more
+    → StreamStands (record { at = at; taken = taken + length more; front = new }) (bytes ++ more)
 stands_on at taken front new bytes more begun stands same keeps fits =
     let s : StreamParts = record { at = at; taken = taken; front = front } in
     let within : at ≤ length bytes = part_at s bytes begun stands in
@@ -219,25 +219,25 @@ stands_on at taken front new bytes more begun stands same keeps fits =
       fits = AreBytes-append bytes more stands.fits fits;
       count = omega (arith, stands.count, length-append bytes more);
       whole = ap bad_frame (take-append-le at bytes more within) ∙ stands.whole;
-      front = ap (take front_size) (drop-append-le at bytes more within) ∙ keeps (drop at bytes) (part_len s bytes stands) stands.front
+      front = ap (take kept_front) (drop-append-le at bytes more within) ∙ keeps (drop at bytes) (part_len s bytes stands) stands.front
           ∙ ap (λ (n : ℕ). take n new) sum;
       kept = λ some ended. kept_on at taken front new bytes more begun stands same some ended;
     }
 
 -- a new stream stands for no bytes
-pub stands_new : (front : List ℕ) → StandsFor (record { at = 0; taken = 0; front = front }) []
+pub stands_new : (front : List ℕ) → StreamStands (record { at = 0; taken = 0; front = front }) []
 unfolding stop_from
 stands_new front = record { fits = AreBytes-none; count = refl; whole = refl; front = refl; kept = λ some ended. absurd (omega (arith, some)) }
 
 -- the frame under way, all of it
-pub whole_frame : (s : StreamParts) (bytes : List ℕ) → StandsFor s bytes → is_long s.front (under_way s) ≡ false → under_way s ≡ 5 + promised s.front
+pub whole_frame : (s : StreamParts) (bytes : List ℕ) → StreamStands s bytes → is_long s.front (under_way s) ≡ false → under_way s ≡ 5 + promised s.front
     → raw_of s.at (drop s.at bytes) ≡ Ok (frame_at (drop s.at bytes))
 whole_frame s bytes stands short whole =
     let head = part_head s bytes stands (omega (arith, whole)) in
     raw_whole s.at (drop s.at bytes) (omega (arith, head, not_long s.front (under_way s) short (omega (arith, whole)))) (omega (arith, head, whole, part_len s bytes stands))
 
 -- where the frame under way is whole it is one more frame
-pub reached_whole : (s : StreamParts) (bytes : List ℕ) → s.at ≤ s.taken → StandsFor s bytes → is_long s.front (under_way s) ≡ false → under_way s ≡ 5 + promised s.front
+pub reached_whole : (s : StreamParts) (bytes : List ℕ) → s.at ≤ s.taken → StreamStands s bytes → is_long s.front (under_way s) ≡ false → under_way s ≡ 5 + promised s.front
     → IsReached bytes (frames_of (take s.at bytes) ++ frame_at (drop s.at bytes) ∷ []) None None
 reached_whole s bytes begun stands short whole =
     let head = part_head s bytes stands (omega (arith, whole)) in
@@ -246,7 +246,7 @@ reached_whole s bytes begun stands short whole =
 
 -- behind it the next begins
 pub stands_next : (taken : ℕ) (front bytes : List ℕ) → AreBytes bytes → taken ≡ length bytes → bad_frame bytes ≡ None → kept_frame bytes ≡ front_frame front
-    → StandsFor (record { at = taken; taken = taken; front = front }) bytes
+    → StreamStands (record { at = taken; taken = taken; front = front }) bytes
 stands_next taken front bytes fits count whole kept =
     let all : take taken bytes ≡ bytes = take_all taken bytes (omega (arith, count)) in
     let none : taken - taken ≡ 0 = omega arith in
@@ -254,14 +254,14 @@ stands_next taken front bytes fits count whole kept =
       fits = fits;
       count = count;
       whole = ap bad_frame all ∙ whole;
-      front = ap (take front_size) (drop_all taken bytes (omega (arith, count))) ∙ sym (ap (λ (n : ℕ). take n front) none);
+      front = ap (take kept_front) (drop_all taken bytes (omega (arith, count))) ∙ sym (ap (λ (n : ℕ). take n front) none);
       kept = λ some ended. kept;
     }
 
 -- ---- what is told of the frame that ended
 
 -- none is told where one is under way
-pub kept_under_way : (s : StreamParts) (bytes : List ℕ) → s.at < s.taken → IsUnfinished s.front (under_way s) → StandsFor s bytes → kept_frame bytes ≡ None
+pub kept_under_way : (s : StreamParts) (bytes : List ℕ) → s.at < s.taken → IsUnfinished s.front (under_way s) → StreamStands s bytes → kept_frame bytes ≡ None
 kept_under_way s bytes begun unfinished stands =
     ⊎_elim
     (λ (h : is_long s.front (under_way s) ≡ true). kept_bad bytes s.at (reached_long s bytes stands h).bad)

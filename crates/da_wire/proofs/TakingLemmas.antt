@@ -5,7 +5,7 @@ use Rattle.std.proofs.Math.Seq.{take-add}
 use Rattle.std.proofs.lemmas.Bool.{and_parts, leb-true, ltb-true}
 use Rattle.frame_payloads.specs.Payloads.{max_payload}
 use Rattle.da_wire.specs.Reading.{promised}
-use Rattle.da_wire.specs.StreamParts.{is_long, IsUnfinished, Keeps, IsTaken}
+use Rattle.da_wire.specs.StreamParts.{is_long, IsUnfinished, KeepsFront, IsTakenPiece}
 use Rattle.da_wire.proofs.RawLemmas.{promised-take}
 
 -- ---- frames that are too long
@@ -35,7 +35,7 @@ promised_same have old new h same = sym (promised-take have new h) ∙ ap promis
 -- ---- how many
 
 -- of a frame that is too long all bytes are taken
-pub taken_all : (old new : List ℕ) (have size : ℕ) → is_long old have ≡ true → take have new ≡ take have old → IsTaken old new have size size
+pub taken_all : (old new : List ℕ) (have size : ℕ) → is_long old have ≡ true → take have new ≡ take have old → IsTakenPiece old new have size size
 taken_all old new have size long same =
     let parts = long_parts old have long in
     let same_size : promised new ≡ promised old = promised_same have old new parts.0 same in
@@ -52,7 +52,7 @@ taken_all old new have size long same =
 
 -- the bytes of a head are taken up to its fifth
 pub taken_head : (old new : List ℕ) (have size count : ℕ) → IsUnfinished old have → is_long old have ≡ false → take have new ≡ take have old → count ≡ min size (5 - have) → have + count < 5
-    → IsTaken old new have size count
+    → IsTakenPiece old new have size count
 taken_head old new have size count unfinished short same is few =
     let now_short : is_long new (have + count) ≡ false = short_not_long new (have + count) few in
     record {
@@ -67,7 +67,7 @@ taken_head old new have size count unfinished short same is few =
 
 -- they are taken up to its fifth alone where the head states a length above the limit
 pub taken_long : (old new : List ℕ) (have size count : ℕ) → IsUnfinished old have → is_long old have ≡ false → take have new ≡ take have old → count ≡ min size (5 - have) → is_long new (have + count) ≡ true
-    → IsTaken old new have size count
+    → IsTakenPiece old new have size count
 taken_long old new have size count unfinished short same is long =
     let parts = long_parts new (have + count) long in
     let in_head : have < 5 =
@@ -89,7 +89,7 @@ taken_long old new have size count unfinished short same is long =
 pub taken_body : (old mid new : List ℕ) (have size head body : ℕ) → IsUnfinished old have → is_long old have ≡ false
     → take have mid ≡ take have old → head ≡ min size (5 - have) → 5 ≤ have + head → is_long mid (have + head) ≡ false
     → take (have + head) new ≡ take (have + head) mid → body ≡ min (size - head) (5 + promised mid - (have + head))
-    → IsTaken old new have size (head + body)
+    → IsTakenPiece old new have size (head + body)
 taken_body old mid new have size head body unfinished short first is_head five now_short second is_body =
     let within : promised mid ≤ max_payload = not_long mid (have + head) now_short five in
     let same : promised new ≡ promised mid = promised_same (have + head) mid new five second in
@@ -122,8 +122,8 @@ taken_body old mid new have size head body unfinished short first is_head five n
 
 -- the bytes of a head, and then those after it
 pub keeps_on : (size have head body : ℕ) (old mid new piece : List ℕ) → head ≤ length piece → body ≤ length (drop head piece)
-    → Keeps size old mid have (take head piece) → Keeps size mid new (have + head) (take body (drop head piece))
-    → Keeps size old new have (take (head + body) piece)
+    → KeepsFront size old mid have (take head piece) → KeepsFront size mid new (have + head) (take body (drop head piece))
+    → KeepsFront size old new have (take (head + body) piece)
 keeps_on size have head body old mid new piece few few_more first second part len kept =
     let more : List ℕ = take body (drop head piece) in
     let head_len : length (take head piece) ≡ head = length-take-le head piece few in

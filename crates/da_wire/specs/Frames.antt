@@ -40,9 +40,9 @@ pub record IsRaw (raw : Raw) : Type 0 where
   pub size : raw.size ≡ 5 + length raw.payload
 
 -- the sample of the grammar that a frame is, if it is one
-abbrev pub message_in : Raw → Option Message
-message_in frame = if frame.kind == message_kind then message_at frame.payload else None
+abbrev pub raw_message : Raw → Option Message
+raw_message frame = if frame.kind == message_kind then message_at frame.payload else None
 
 -- the fraud claim of the grammar that a frame is, if it is one
-abbrev pub claim_in : Raw → Option ClaimParts
-claim_in frame = if frame.kind == fraud_kind then fraud_at frame.payload else None
+abbrev pub raw_claim : Raw → Option ClaimParts
+raw_claim frame = if frame.kind == fraud_kind then fraud_at frame.payload else None

@@ -11,8 +11,8 @@ use Rattle.frame_payloads.specs.kinds.Message.{most_message}
 use Rattle.da_wire.specs.declared.streams.Pushed.{Pushed}
 use Rattle.da_wire.specs.declared.streams.Pushed.TheVariants as pushed
 use Rattle.da_wire.specs.Reading.{Raw, raw_of}
-use Rattle.da_wire.specs.Frames.{frames_of, bad_frame, message_in}
-use Rattle.da_wire.specs.StreamParts.{StreamParts, front_size, under_way, front_frame}
+use Rattle.da_wire.specs.Frames.{frames_of, bad_frame, raw_message}
+use Rattle.da_wire.specs.StreamParts.{StreamParts, kept_front, under_way, front_frame}
 
 -- the last of a list, if there is one
 abbrev pub last_of : {A : Type 0} → List A → Option A
@@ -34,11 +34,11 @@ kept_frame bytes = last_frame bytes >>= if_short
 -- a stream stands for the bytes that its pushes took: those before the frame under way are whole frames,
 -- and of those after them it keeps as many as its room holds; where none is under way it keeps the frame
 -- that ended
-pub record StandsFor (stream : StreamParts) (bytes : List ℕ) : Type 0 where
+pub record StreamStands (stream : StreamParts) (bytes : List ℕ) : Type 0 where
   pub fits : AreBytes bytes
   pub count : stream.taken ≡ length bytes
   pub whole : bad_frame (take stream.at bytes) ≡ None
-  pub front : take front_size (drop stream.at bytes) ≡ take (under_way stream) stream.front
+  pub front : take kept_front (drop stream.at bytes) ≡ take (under_way stream) stream.front
   pub kept : 0 < stream.taken → stream.at ≡ stream.taken → kept_frame bytes ≡ front_frame stream.front
 
 -- why a reader refused
@@ -53,8 +53,8 @@ refusal_at bytes (Some at) = err_of (raw_of at (drop at bytes))
 
 -- why no frame stands at the first place at which none does though bytes are left, none where the file is
 -- a list of frames
-abbrev pub first_refusal : List ℕ → Option FrameError
-first_refusal bytes = refusal_at bytes (bad_frame bytes)
+abbrev pub why_no_frame : List ℕ → Option FrameError
+why_no_frame bytes = refusal_at bytes (bad_frame bytes)
 
 -- the offset that a refusal names
 abbrev pub offset_of : FrameError → ℕ
@@ -75,7 +75,7 @@ AnswersFrame (pushed.Bad at) = ⊥
 -- another answer the frames are those before
 abbrev pub EndsFrame : List Raw → List Raw → Pushed → Type 0
 EndsFrame before after pushed.More = after ≡ before
-EndsFrame before after (pushed.Frame message) = (frame : Raw) × (after ≡ before ++ frame ∷ []) × (message ≡ message_in frame)
+EndsFrame before after (pushed.Frame message) = (frame : Raw) × (after ≡ before ++ frame ∷ []) × (message ≡ raw_message frame)
 EndsFrame before after (pushed.Bad at) = after ≡ before
 
 -- what a push answers that took so many bytes of a piece, after these bytes: a frame exactly where they end one,
@@ -83,11 +83,11 @@ EndsFrame before after (pushed.Bad at) = after ≡ before
 -- later; else it takes the whole piece
 pub record IsPush (before piece : List ℕ) (count : ℕ) (answer : Pushed) : Type 0 where
   pub frame : AnswersFrame answer ↔ ((0 < count) × (bad_frame (before ++ take count piece) ≡ None))
-  pub bad : (at : ℕ) → (answer ≡ pushed.Bad at) ↔ (first_refusal (before ++ take count piece) ≡ Some (TooLong at))
+  pub bad : (at : ℕ) → (answer ≡ pushed.Bad at) ↔ (why_no_frame (before ++ take count piece) ≡ Some (TooLong at))
   pub whole : answer ≡ pushed.More → count ≡ length piece
   pub frames : EndsFrame (frames_of before) (frames_of (before ++ take count piece)) answer
-  pub fifth : (at : ℕ) → answer ≡ pushed.Bad at → (first_refusal before ≡ Some (TooLong at) → ⊥) → length before + count ≡ at + 5
-  pub later : (at : ℕ) → first_refusal before ≡ Some (TooLong at) → count ≡ length piece
+  pub fifth : (at : ℕ) → answer ≡ pushed.Bad at → (why_no_frame before ≡ Some (TooLong at) → ⊥) → length before + count ≡ at + 5
+  pub later : (at : ℕ) → why_no_frame before ≡ Some (TooLong at) → count ≡ length piece
 
 -- the sample that a push answers, in a list
 abbrev pub messages_in : Pushed → List (Option Message)
@@ -118,7 +118,7 @@ answered pushes = flat_map (λ push. messages_in push.answer) pushes
 -- over every cutting of a byte string the frames that are answered are those of the string, up to the
 -- first place at which none stands
 abbrev pub EveryCutting : Type 0
-EveryCutting = (pushes : List Push) → ArePushes [] pushes → answered pushes ≡ map message_in (frames_of (taken_by pushes))
+EveryCutting = (pushes : List Push) → ArePushes [] pushes → answered pushes ≡ map raw_message (frames_of (taken_by pushes))
 
 -- the frames of bytes stay whatever bytes follow
 abbrev pub FramesStay : Type 0

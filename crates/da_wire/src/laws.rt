@@ -24,7 +24,7 @@ ghost use Rattle.frame_payloads.specs.Payloads.{max_payload};
 ghost use Rattle.frame_payloads.specs.kinds.Names.{most_entries, most_shares_shown, is_long_answer};
 ghost use Rattle.frame_payloads.specs.kinds.Fraud.{most_cells, most_set_nodes, is_unwritten};
 ghost use Rattle.frame_payloads.specs.kinds.Clash.{AreStrings, has_empty};
-ghost use Rattle.frame_payloads.specs.kinds.Commit.{most_rows, most_subtrees, IsCommitSent, is_long_commit};
+ghost use Rattle.frame_payloads.specs.kinds.Commit.{most_rows, most_row_subtrees, IsCommitSent, is_long_commit};
 ghost use Rattle.frame_payloads.specs.declared.refusals.Refusal as refusals;
 ghost use Rattle.frame_payloads.specs.kinds.Refusal.{IsRefusal};
 ghost use Rattle.frame_payloads.specs.kinds.Rooted.{IsRootedSent};
@@ -127,6 +127,6 @@ pub fn limit_laws()
 
     // A commitment proof has at most 512 rows, each of at most 512 subtrees and 11 hashes.
     ensures rows { most_rows ≡ 512 }
-    ensures subtrees { most_subtrees ≡ 512 }
+    ensures subtrees { most_row_subtrees ≡ 512 }
     ensures hashes { most_hashes ≡ 11 }
 {}

@@ -9,8 +9,8 @@ ghost use Rattle.std.specs.Option.{option_map};
 ghost use Rattle.da_wire.specs.declared.streams.Pushed.TheVariants as pushed;
 ghost use Rattle.namespace_id.specs.Answers.{Gives};
 ghost use Rattle.da_wire.specs.Reading.{promised, raw_seen};
-ghost use Rattle.da_wire.specs.StreamParts.{front_size, is_long, front_message, front_frame, IsUnfinished, Keeps, IsTaken};
-ghost use Rattle.da_wire.specs.Streams.{StandsFor, IsPush, kept_frame, first_refusal, offset_of};
+ghost use Rattle.da_wire.specs.StreamParts.{kept_front, is_long, front_message, front_frame, IsUnfinished, KeepsFront, IsTakenPiece};
+ghost use Rattle.da_wire.specs.Streams.{StreamStands, IsPush, kept_frame, why_no_frame, offset_of};
 ghost use Rattle.da_wire.specs.Frames.{bad_frame};
 
 use crate::frames::HEAD_SIZE;
@@ -62,7 +62,7 @@ impl Model for FrameStream {
 fn keep(front: &mut [u8], have: u64, bytes: &[u8])
     ensures first { take have front.new ≡ take have front.old }
     ensures none { length bytes.now ≡ 0 → front.new ≡ front.old }
-    ensures kept { Keeps (length front.old) front.old front.new have bytes.now }
+    ensures kept { KeepsFront (length front.old) front.old front.new have bytes.now }
 {
     let size = front.len();
     if have < size as u64 {
@@ -77,7 +77,7 @@ fn fill(front: &mut [u8], have: u64, goal: u64, bytes: &[u8]) -> usize
     ensures count { result ≡ min (length bytes.now) (goal - have) }
     ensures first { take have front.new ≡ take have front.old }
     ensures none { result ≡ 0 → front.new ≡ front.old }
-    ensures kept { Keeps (length front.old) front.old front.new have (take result bytes.now) }
+    ensures kept { KeepsFront (length front.old) front.old front.new have (take result bytes.now) }
 {
     let count = goal.saturating_sub(have).min(bytes.len() as u64) as usize;
     keep(front, have, &bytes[..count]);
@@ -108,8 +108,8 @@ fn take_some(front: &mut [u8], have: u64, piece: &[u8]) -> usize
     requires count { have + length piece.now < 2 ^ 64 }
     requires unfinished { IsUnfinished front.old have }
     ensures none { result ≡ 0 → front.new ≡ front.old }
-    ensures kept { Keeps (length front.old) front.old front.new have (take result piece.now) }
-    ensures taken { IsTaken front.old front.new have (length piece.now) result }
+    ensures kept { KeepsFront (length front.old) front.old front.new have (take result piece.now) }
+    ensures taken { IsTakenPiece front.old front.new have (length piece.now) result }
 {
     if is_long(front, have) {
         keep(front, have, piece);
@@ -126,7 +126,7 @@ fn take_some(front: &mut [u8], have: u64, piece: &[u8]) -> usize
 
 /// The sample of the grammar that the frame in a room is, if it is one.
 fn message_of(front: &[u8]) -> Option<Message>
-    requires { length front.now ≡ front_size }
+    requires { length front.now ≡ kept_front }
     ensures { result ≡ front_message front.now }
 {
     let size = stated(front) as usize;
@@ -138,7 +138,7 @@ fn message_of(front: &[u8]) -> Option<Message>
 
 /// The frame in a room, none where it is longer than the room.
 fn frame_of(front: &[u8]) -> Option<RawFrame<'_>>
-    requires { length front.now ≡ front_size }
+    requires { length front.now ≡ kept_front }
     ensures { Gives (λ f. raw_seen f) result (front_frame front.now) }
 {
     let size = stated(front) as usize;
@@ -155,7 +155,7 @@ fn frame_of(front: &[u8]) -> Option<RawFrame<'_>>
 impl FrameStream {
     /// A stream that took no bytes yet. It takes no memory.
     pub fn new() -> FrameStream
-        ensures stands { StandsFor result [] }
+        ensures stands { StreamStands result [] }
         ensures taken { result.taken ≡ 0 }
     {
         FrameStream {
@@ -174,9 +174,9 @@ impl FrameStream {
     /// docs/FORMATS.md, "Streams of frames".
     pub fn push(&mut self, piece: &[u8]) -> (usize, Pushed)
         requires { self.old.taken + length piece.now < 2 ^ 64 }
-        ensures stands { (bytes : List ℕ) → StandsFor self.old bytes →
-            StandsFor self.new (bytes ++ take result.0 piece.now) }
-        ensures answer { (bytes : List ℕ) → StandsFor self.old bytes →
+        ensures stands { (bytes : List ℕ) → StreamStands self.old bytes →
+            StreamStands self.new (bytes ++ take result.0 piece.now) }
+        ensures answer { (bytes : List ℕ) → StreamStands self.old bytes →
             IsPush bytes piece.now result.0 result.1 }
         ensures within { result.0 ≤ length piece.now }
         ensures some { 0 < length piece.now → 0 < result.0 }
@@ -202,7 +202,7 @@ impl FrameStream {
     ///
     /// docs/FORMATS.md, "Streams of frames".
     pub fn last(&self) -> Option<RawFrame<'_>>
-        ensures { (bytes : List ℕ) → StandsFor self.now bytes →
+        ensures { (bytes : List ℕ) → StreamStands self.now bytes →
             Gives (λ f. raw_seen f) result (kept_frame bytes) }
     {
         if self.taken == 0 || self.at < self.taken {
@@ -216,9 +216,9 @@ impl FrameStream {
     ///
     /// docs/FORMATS.md, "Streams of frames".
     pub fn end(&self) -> Option<FrameError>
-        ensures refusal { (bytes : List ℕ) → StandsFor self.now bytes →
-            result ≡ first_refusal bytes }
-        ensures place { (bytes : List ℕ) → StandsFor self.now bytes →
+        ensures refusal { (bytes : List ℕ) → StreamStands self.now bytes →
+            result ≡ why_no_frame bytes }
+        ensures place { (bytes : List ℕ) → StreamStands self.now bytes →
             bad_frame bytes ≡ option_map offset_of result }
     {
         let have = self.taken - self.at;

@@ -5,8 +5,8 @@
 ghost use Rattle.std.specs.Prelude.{◌≡◌, IfOk, IfSome, IsNone};
 ghost use Rattle.data_header.specs.Headers.{Roots};
 ghost use Rattle.data_header.specs.DataRoots.{data_root_of};
-ghost use Rattle.square_layout.specs.Layout.{square_of};
-ghost use Rattle.square_layout.specs.Refusals.{layout_refusal, Answers};
+ghost use Rattle.square_layout.specs.Layout.{block_square};
+ghost use Rattle.square_layout.specs.Refusals.{layout_refusal, AnswersLaying};
 ghost use Rattle.axis_roots.specs.Grids.{IsHeaderOf, HasNoHeader};
 
 use axis_roots::header_of_square;
@@ -38,10 +38,10 @@ enum Failure {
 /// The data root of a block: that of the header of its square; none where the square has no header.
 /// Refuses what `lay` refuses.
 fn root_of(alloc: Global, block: &Block) -> Result<Option<[u8; 32]>, LayError>
-    ensures first { Answers result (layout_refusal block.now) }
+    ensures first { AnswersLaying result (layout_refusal block.now) }
     ensures root { IfOk result (λ found. IfSome found (λ root. (header : Roots) ×
-        IsHeaderOf header (square_of block.now) × (root ≡ data_root_of header))) }
-    ensures none { IfOk result (λ found. IsNone found → HasNoHeader (square_of block.now)) }
+        IsHeaderOf header (block_square block.now) × (root ≡ data_root_of header))) }
+    ensures none { IfOk result (λ found. IsNone found → HasNoHeader (block_square block.now)) }
 {
     let square = lay(alloc, block)?;
     match header_of_square(alloc, &square) {

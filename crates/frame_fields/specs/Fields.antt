@@ -31,8 +31,8 @@ abbrev pub string_at : ℕ → List ℕ → Option (List ℕ × List ℕ)
 string_at size bytes = if nat_lt (length bytes) size then None else Some (take size bytes, drop size bytes)
 
 -- a big-endian number
-abbrev pub number_at : Width → List ℕ → Option (ℕ × List ℕ)
-number_at w bytes =
+abbrev pub big_endian_at : Width → List ℕ → Option (ℕ × List ℕ)
+big_endian_at w bytes =
     if nat_lt (length bytes) (byte_len w) then None else
     Some (from_be_bytes w (take (byte_len w) bytes), drop (byte_len w) bytes)
 
@@ -89,8 +89,8 @@ axis_at bytes = do
 -- a cell: its row and its column, in two bytes each
 unfoldable pub cell_at : List ℕ → Option (Cell × List ℕ)
 cell_at bytes = do
-  row ← number_at w16 bytes
-  col ← number_at w16 row.1
+  row ← big_endian_at w16 bytes
+  col ← big_endian_at w16 row.1
   Some (record { row = row.0; col = col.0 }, col.1)
 
 -- a count in one byte, at most the limit, and so many digests
@@ -110,7 +110,7 @@ hashes_at bytes = do
 -- a count or a length of this width, at most the limit
 unfoldable pub count_at : Width → ℕ → List ℕ → Option (ℕ × List ℕ)
 count_at w limit bytes = do
-  count ← number_at w bytes
+  count ← big_endian_at w bytes
   if nat_lt limit count.0 then None else Some count
 
 -- a count of two bytes, at most the limit, and so many digests

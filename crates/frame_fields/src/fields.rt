@@ -5,7 +5,7 @@ ghost use Rattle.std.specs.Int.{w16, w32};
 ghost use Rattle.namespace_id.specs.Answers.{Gives};
 ghost use Rattle.namespace_id.specs.Sizes.{most_depth};
 ghost use Rattle.data_header.specs.Paths.{most_hashes};
-ghost use Rattle.frame_fields.specs.Fields.{most_nodes, hashes_at, split_into, digests_of, shares_of, shares_at, text_at, count_at, number_at, byte_at, string_at, axis_at, path_at, cell_at, digest_list_at};
+ghost use Rattle.frame_fields.specs.Fields.{most_nodes, hashes_at, split_into, digests_of, shares_of, shares_at, text_at, count_at, big_endian_at, byte_at, string_at, axis_at, path_at, cell_at, digest_list_at};
 
 use data_header::{MOST_HASHES, RootPath};
 use namespace_id::{
@@ -28,7 +28,7 @@ const HASH_SIZE: usize = 32;
 
 /// A number of two bytes, the higher first, and the bytes after it.
 pub fn u16_at(bytes: &[u8]) -> Option<(u16, &[u8])>
-    ensures { Gives (λ x. (x.0, x.1.now)) result (number_at w16 bytes.now) }
+    ensures { Gives (λ x. (x.0, x.1.now)) result (big_endian_at w16 bytes.now) }
 {
     if bytes.len() < 2 {
         return None;
@@ -39,7 +39,7 @@ pub fn u16_at(bytes: &[u8]) -> Option<(u16, &[u8])>
 
 /// A number of four bytes, the highest first, and the bytes after it.
 pub fn u32_at(bytes: &[u8]) -> Option<(u32, &[u8])>
-    ensures { Gives (λ x. (x.0, x.1.now)) result (number_at w32 bytes.now) }
+    ensures { Gives (λ x. (x.0, x.1.now)) result (big_endian_at w32 bytes.now) }
 {
     if bytes.len() < 4 {
         return None;

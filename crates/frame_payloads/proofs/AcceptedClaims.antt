@@ -13,7 +13,7 @@ use Rattle.axis_roots.specs.Sets.{is_along, is_shown, is_bare, fits_set, OpensSe
 use Rattle.axis_roots.specs.Claims.{ClaimParts, is_on, is_set_cell, claimed_root, AreProved, HasSet, Accepts}
 use Rattle.axis_roots.proofs.Messages.ClaimLemmas.{Shape, shape_of}
 use Rattle.axis_roots.proofs.Messages.SetLemmas.{accepted_few}
-use Rattle.frame_payloads.specs.kinds.Fraud.{most_cells, is_placed, fits_form, is_unwritten}
+use Rattle.frame_payloads.specs.kinds.Fraud.{most_cells, is_cell_placed, fits_form, is_unwritten}
 use Rattle.frame_payloads.proofs.Forms.CellParts.{is_path}
 use Rattle.frame_payloads.proofs.Forms.FraudForm.{written_from, fits_from}
 
@@ -28,12 +28,12 @@ bare_path k axis m h = by_along (is_along axis m) refl
     by_along false f = refl
 
 -- bare cells on the accused axis can be written
-all_written : (k : ℕ) (claim : ClaimParts) (cells : List Message) → list_all (is_on claim) cells ≡ true → list_all (is_bare k claim.axis) cells ≡ true → list_all (is_placed claim) cells ≡ true
+all_written : (k : ℕ) (claim : ClaimParts) (cells : List Message) → list_all (is_on claim) cells ≡ true → list_all (is_bare k claim.axis) cells ≡ true → list_all (is_cell_placed claim) cells ≡ true
 all_written k claim [] on bare = refl
 all_written k claim (m ∷ cells) on bare =
     let here = and_parts (is_on claim m) (list_all (is_on claim) cells) on in
     let there = and_parts (is_bare k claim.axis m) (list_all (is_bare k claim.axis) cells) bare in
-    and_from (is_placed claim m) (list_all (is_placed claim) cells)
+    and_from (is_cell_placed claim m) (list_all (is_cell_placed claim) cells)
     (and_from (is_on claim m) (is_path (is_along claim.axis m) m.path) here.0 (bare_path k claim.axis m there.0))
     (all_written k claim cells here.1 there.1)
 

@@ -13,7 +13,7 @@ use Rattle.leopard_code.specs.Codewords.{are_positions, HasEntries}
 use Rattle.leopard_code.proofs.FirstLemmas.{first_entries}
 use Rattle.celestia_pb.specs.declared.half_row.Side.{Side}
 use Rattle.celestia_pb.specs.declared.half_row.Side.TheVariants.{Left, Right}
-use Rattle.half_rows.specs.Rows.{places_of}
+use Rattle.half_rows.specs.Rows.{positions_of_half}
 
 -- numbers that count up are ascending
 along_ascending : (n first : ℕ) → holds_along nat_lt (ascending first n) ≡ true
@@ -37,12 +37,12 @@ positions_from : (k first : ℕ) → first ≤ k → IsTrue (are_positions k (as
 positions_from k first low =
     and_from (list_all (λ pos. nat_lt pos (2 * k)) (ascending first k)) (holds_along nat_lt (ascending first k)) (below_ascending k first (2 * k) (omega arith)) (along_ascending k first)
 
-pub half_positions : (k : ℕ) (side : Side) → IsTrue (are_positions k (places_of k side))
+pub half_positions : (k : ℕ) (side : Side) → IsTrue (are_positions k (positions_of_half k side))
 half_positions k Left = positions_from k 0 (omega arith)
 half_positions k Right = positions_from k k (omega arith)
 
 -- there are k
-pub length-places_of : (k : ℕ) (side : Side) → length (places_of k side) ≡ k
+pub length-places_of : (k : ℕ) (side : Side) → length (positions_of_half k side) ≡ k
 length-places_of k Left = length-ascending k 0
 length-places_of k Right = length-ascending k k
 

@@ -12,23 +12,23 @@ use Rattle.axis_roots.specs.Grids.{share_at, axis_shares, Extends}
 use Rattle.axis_roots.specs.Trees.{axis_leaves, line_stored, message_at}
 use Rattle.axis_roots.proofs.Grids.AxisLemmas.{get_or-along}
 use Rattle.celestia_pb.specs.HalfRows.{HalfParts, IsHalf}
-use Rattle.half_rows.specs.Rows.{width_of, places_of, HasHalf, IsRowOf, is_ordered_row, sample_in}
+use Rattle.half_rows.specs.Rows.{width_of, positions_of_half, HasHalf, IsRowOf, is_ordered_row, sample_in}
 use Rattle.half_rows.proofs.PlaceLemmas.{half_positions, length-places_of}
 
 -- there is a row that has the half
 pub row_is_there : (half : HalfParts) → IsHalf half → AreShares half.shares → (line : List Share) × IsRowOf half line
 row_is_there half is are =
     let k : ℕ = width_of half in
-    let found = through_shares k (places_of k half.side) half.shares is.width (length-places_of k half.side) (half_positions k half.side) refl are in
+    let found = through_shares k (positions_of_half k half.side) half.shares is.width (length-places_of k half.side) (half_positions k half.side) refl are in
     (found.0, record { codeword = found.1; half_of = found.2 })
 
 -- and no other one
 pub row_is_one : (half : HalfParts) (one other : List Share) → IsHalf half → IsRowOf half one → IsRowOf half other → one ≡ other
 row_is_one half one other is first second =
     let k : ℕ = width_of half in
-    one_codeword k (places_of k half.side) one other is.width (length-places_of k half.side) (half_positions k half.side) first.codeword second.codeword
+    one_codeword k (positions_of_half k half.side) one other is.width (length-places_of k half.side) (half_positions k half.side) first.codeword second.codeword
     (λ i h.
-    let place : i < length (places_of k half.side) = omega (arith, h, length-places_of k half.side) in
+    let place : i < length (positions_of_half k half.side) = omega (arith, h, length-places_of k half.side) in
     first.half_of i place ∙ sym (second.half_of i place))
 
 -- the sample of a row of an extension is that of its cell

@@ -18,13 +18,13 @@ abbrev pub width_of : HalfParts → ℕ
 width_of half = length half.shares
 
 -- the positions of a half: the first k are the originals, the others are the recovery shares
-abbrev pub places_of : ℕ → Side → List ℕ
-places_of k Left = ascending 0 k
-places_of k Right = ascending k k
+abbrev pub positions_of_half : ℕ → Side → List ℕ
+positions_of_half k Left = ascending 0 k
+positions_of_half k Right = ascending k k
 
 -- the row has the shares of the half at its positions
 abbrev pub HasHalf : HalfParts → List Share → Type 0
-HasHalf half line = HasEntries (places_of (width_of half) half.side) half.shares line
+HasHalf half line = HasEntries (positions_of_half (width_of half) half.side) half.shares line
 
 -- the 2k shares of a row that has the half: they are a codeword
 pub record IsRowOf (half : HalfParts) (line : List Share) : Type 0 where
@@ -36,24 +36,24 @@ abbrev pub is_ordered_row : ℕ → ℕ → List Share → Bool
 is_ordered_row k row line = is_ordered_line k Row row line
 
 -- a row of 2k shares: its square's width, its number, and its shares
-pub record RowParts : Type 0 where
+pub record WholeRow : Type 0 where
   pub k : ℕ
   pub row : ℕ
   pub line : List Share
 
 -- the sample of the cell in a column
-abbrev pub sample_in : RowParts → ℕ → Message
+abbrev pub sample_in : WholeRow → ℕ → Message
 sample_in parts col = line_message parts.k Row parts.row parts.line col
 
 -- the square has the row, and the tree is the one over its leaves
-pub record IsStoredRow (parts : RowParts) (tree : StoredTree) : Type 0 where
+pub record IsStoredRow (parts : WholeRow) (tree : StoredTree) : Type 0 where
   pub width : is_width parts.k ≡ true
   pub row : parts.row < 2 * parts.k
   pub count : length parts.line ≡ 2 * parts.k
   pub tree_of : tree ≡ line_stored parts.k Row parts.row parts.line
 
 -- the row of this number that has the half, of which the leaf namespaces never fall
-pub record IsOrderedRowOf (half : HalfParts) (number : ℕ) (parts : RowParts) : Type 0 where
+pub record IsOrderedRowOf (half : HalfParts) (number : ℕ) (parts : WholeRow) : Type 0 where
   pub width : parts.k ≡ width_of half
   pub number_is : parts.row ≡ number
   pub row_of : IsRowOf half parts.line

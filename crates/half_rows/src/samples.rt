@@ -47,9 +47,9 @@ pub struct RowSamples {
 }
 
 impl Model for RowSamples {
-    ghost use Rattle.half_rows.specs.Rows.{RowParts, IsStoredRow};
+    ghost use Rattle.half_rows.specs.Rows.{WholeRow, IsStoredRow};
 
-    ghost Value = { RowParts };
+    ghost Value = { WholeRow };
 
     ghost view = { λ s. record { k = s.k; row = s.row; line = s.line.items } };
 

@@ -9,7 +9,7 @@ use Rattle.namespace_id.specs.declared.digests.Digest.{Digest}
 use Rattle.hash_clash.specs.declared.sides.Side.{Side}
 use Rattle.hash_clash.specs.declared.sides.Seen.{Seen}
 use Rattle.hash_clash.specs.declared.sides.Seen.TheVariants.{Given, Leaf, Join}
-use Rattle.hash_clash.specs.Sides.{part_of, IsSeen, IsJoined}
+use Rattle.hash_clash.specs.Sides.{part_of, IsSeenAs, IsJoined}
 use Rattle.nmt_proofs.specs.Parts.{Part, given, leaf, join, digest_of}
 use Rattle.nmt_proofs.specs.Clashes.{leaf_text, join_text, apart_or, clash_at}
 
@@ -76,7 +76,7 @@ unfolding clash_at
 given_first p q d e = sym (ap (λ (x : Part). clash_at x q) e)
 
 -- a leaf beside what is none
-pub leaf_alone : (depth start : ℕ) (p : Part) (n : Namespace) (s : Share) (b : Side) (seen : Seen) → p ≡ leaf n s → IsSeen depth start b seen
+pub leaf_alone : (depth start : ℕ) (p : Part) (n : Namespace) (s : Share) (b : Side) (seen : Seen) → p ≡ leaf n s → IsSeenAs depth start b seen
     → ((x : Bor Namespace) (y : Bor Share) → seen ≡ Leaf x y → ⊥) → None ≡ clash_at p (part_of depth start b)
 unfolding clash_at
 leaf_alone depth start p n s b (Given d) e h other = sym (ap₂ clash_at e h)
@@ -84,7 +84,7 @@ leaf_alone depth start p n s b (Leaf x y) e h other = absurd (other x y refl)
 leaf_alone depth start p n s b (Join x y) e h other = sym (ap₂ clash_at e h.part)
 
 -- a join beside what is none
-pub join_alone : (depth start : ℕ) (p l r : Part) (b : Side) (seen : Seen) → p ≡ join l r → IsSeen depth start b seen → ((x y : Side) → seen ≡ Join x y → ⊥)
+pub join_alone : (depth start : ℕ) (p l r : Part) (b : Side) (seen : Seen) → p ≡ join l r → IsSeenAs depth start b seen → ((x y : Side) → seen ≡ Join x y → ⊥)
     → None ≡ clash_at p (part_of depth start b)
 unfolding clash_at
 join_alone depth start p l r b (Given d) e h other = sym (ap₂ clash_at e h)

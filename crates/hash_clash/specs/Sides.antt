@@ -31,8 +31,8 @@ pub record IsJoined (depth start : ℕ) (whole left right : Side) : Type 0 where
   pub right_fits : IsSide (depth - 1) right
 
 -- what an interval is
-abbrev pub IsSeen : ℕ → ℕ → Side → Seen → Type 0
-IsSeen depth start whole (seen.Given digest) = part_of depth start whole ≡ given digest.now
-IsSeen depth start whole (seen.Leaf name share) =
+abbrev pub IsSeenAs : ℕ → ℕ → Side → Seen → Type 0
+IsSeenAs depth start whole (seen.Given digest) = part_of depth start whole ≡ given digest.now
+IsSeenAs depth start whole (seen.Leaf name share) =
     part_of depth start whole ≡ leaf name.now share.now
-IsSeen depth start whole (seen.Join left right) = IsJoined depth start whole left right
+IsSeenAs depth start whole (seen.Join left right) = IsJoined depth start whole left right

@@ -3,7 +3,7 @@
 ghost use Rattle.std.specs.Prelude.{◌≡◌, ◌+◌, ◌^◌, ◌≤◌};
 ghost use Rattle.namespace_id.specs.Sizes.{most_depth, most_leaves};
 ghost use Rattle.nmt_proofs.specs.Parts.{digest_of};
-ghost use Rattle.hash_clash.specs.Sides.{part_of, IsSide, IsSeen};
+ghost use Rattle.hash_clash.specs.Sides.{part_of, IsSide, IsSeenAs};
 
 use crate::Opening;
 use namespace_id::{Digest, Namespace, Share};
@@ -36,7 +36,7 @@ pub(crate) fn look<'a>(depth: u8, start: u16, side: Side<'a>) -> Seen<'a>
     requires depth { depth ≤ most_depth }
     requires interval { start + 2 ^ depth ≤ most_leaves }
     requires side { IsSide depth side }
-    ensures { IsSeen depth start side.entry result }
+    ensures { IsSeenAs depth start side.entry result }
 {
     match side {
         Side::Given(digest) => Seen::Given(digest),

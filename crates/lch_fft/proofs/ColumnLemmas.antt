@@ -7,10 +7,10 @@ use Rattle.namespace_id.specs.declared.shares.Share.{Share}
 use Rattle.lch_fft.proofs.ByteLemmas.{AllLabels}
 use Rattle.namespace_id.specs.Shares.{IsShare, AreShares}
 use Rattle.lch_fft.specs.Transforms.{column}
-use Rattle.lch_fft.specs.Readings.{Reading, AreReadingLaws}
+use Rattle.lch_fft.specs.Readings.{LabelReading, AreReadingLaws}
 
 -- the label in column b of share i
-abbrev pub byte : Reading → List Share → ℕ → ℕ → ℕ
+abbrev pub byte : LabelReading → List Share → ℕ → ℕ → ℕ
 byte r shares i b = r.label_at (get_or shares i (record { 0 = [] })).0 b
 
 -- a list of zeros has 0 anywhere
@@ -19,7 +19,7 @@ zero_anywhere zero i = refl
 zero_anywhere (suc n) zero = refl
 zero_anywhere (suc n) (suc i) = zero_anywhere n i
 
-module _ (R : Reading) (L : AreReadingLaws R) where
+module _ (R : LabelReading) (L : AreReadingLaws R) where
   -- a column is as long as the list of shares
   pub length-column : (b : ℕ) (shares : List Share) → length (column R b shares) ≡ length shares
   unfolding column

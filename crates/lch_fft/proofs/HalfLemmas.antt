@@ -2,19 +2,19 @@
 use Rattle.std.proofs.Common.{◌≡◌, ◌∙◌, ℕ, suc, ◌+◌, ◌/◌, ◌^◌, ◌<◌, List, ◌++◌, length, take, drop, sym, ap, ap₂, IsTrue}
 use Rattle.namespace_id.specs.declared.shares.Share.{Share}
 use Rattle.lch_fft.specs.Transforms.{column, is_count}
-use Rattle.lch_fft.specs.Butterflies.{bytes_sum, multiple, spread, gather, halvings}
+use Rattle.lch_fft.specs.Butterflies.{bytes_sum, multiple, spread, gather, transform_halvings}
 use Rattle.lch_fft.proofs.ColumnLemmas.{column-append, column-take, column-drop}
 use Rattle.lch_fft.proofs.CountLemmas.{count-half, not_one, halvings_half, halvings_one, power_halvings}
-use Rattle.lch_fft.specs.Readings.{Reading, AreReadingLaws}
+use Rattle.lch_fft.specs.Readings.{LabelReading, AreReadingLaws}
 
-module _ (R : Reading) (L : AreReadingLaws R) where
+module _ (R : LabelReading) (L : AreReadingLaws R) where
   -- the transform of one coefficient
-  pub spread-one : (n : ℕ) (d : List ℕ) (s : ℕ) → IsTrue (is_count n) → n / 2 ≡ 0 → d ≡ spread R.field (halvings n) d s
+  pub spread-one : (n : ℕ) (d : List ℕ) (s : ℕ) → IsTrue (is_count n) → n / 2 ≡ 0 → d ≡ spread R.field (transform_halvings n) d s
   unfolding spread
   spread-one n d s h one = sym (ap (λ (k : ℕ). spread R.field k d s) (halvings_one n h one))
 
   -- the inverse of one value
-  pub gather-one : (n : ℕ) (d : List ℕ) (s : ℕ) → IsTrue (is_count n) → n / 2 ≡ 0 → d ≡ gather R.field (halvings n) d s
+  pub gather-one : (n : ℕ) (d : List ℕ) (s : ℕ) → IsTrue (is_count n) → n / 2 ≡ 0 → d ≡ gather R.field (transform_halvings n) d s
   unfolding gather
   gather-one n d s h one = sym (ap (λ (k : ℕ). gather R.field k d s) (halvings_one n h one))
 
@@ -36,19 +36,19 @@ module _ (R : Reading) (L : AreReadingLaws R) where
       → length low2 ≡ length old / 2 → length high2 ≡ length old / 2
       → column R b low2 ≡ bytes_sum (column R b low) (multiple R.field (s / (length old / 2)) (column R b high))
       → column R b high2 ≡ bytes_sum (column R b low2) (column R b high)
-      → column R b low3 ≡ spread R.field (halvings (length low2)) (column R b low2) s
-      → column R b high3 ≡ spread R.field (halvings (length high2)) (column R b high2) (s + length old / 2)
-      → column R b (low3 ++ high3) ≡ spread R.field (halvings (length old)) (column R b old) s
+      → column R b low3 ≡ spread R.field (transform_halvings (length low2)) (column R b low2) s
+      → column R b high3 ≡ spread R.field (transform_halvings (length high2)) (column R b high2) (s + length old / 2)
+      → column R b (low3 ++ high3) ≡ spread R.field (transform_halvings (length old)) (column R b old) s
   spread-halves old low high low2 high2 low3 high3 s b count several el eh ll lh sl sh rl rh =
       let n : ℕ = length old / 2 in
-      let d : ℕ = halvings (length old / 2) in
+      let d : ℕ = transform_halvings (length old / 2) in
       let half = count-half (length old) count (not_one (length old) several) in
       let cl : column R b low ≡ take n (column R b old) = ap (column R b) el ∙ column-take R L b n old in
       let ch : column R b high ≡ drop n (column R b old) = ap (column R b) eh ∙ column-drop R L b n old in
       column-append R L b low3 high3
       ∙ ap₂ (λ (x y : List ℕ). x ++ y)
-      (rl ∙ ap (λ (k : ℕ). spread R.field (halvings k) (column R b low2) s) ll)
-      (rh ∙ ap (λ (k : ℕ). spread R.field (halvings k) (column R b high2) (s + n)) lh)
+      (rl ∙ ap (λ (k : ℕ). spread R.field (transform_halvings k) (column R b low2) s) ll)
+      (rh ∙ ap (λ (k : ℕ). spread R.field (transform_halvings k) (column R b high2) (s + n)) lh)
       ∙ spread-suc d n (column R b old) (column R b low2) (column R b high2) s (power_halvings n half.0)
       (sl ∙ ap₂ (λ (x y : List ℕ). bytes_sum x (multiple R.field (s / n) y)) cl ch)
       (sh ∙ ap (λ (x : List ℕ). bytes_sum (column R b low2) x) ch)
@@ -70,19 +70,19 @@ module _ (R : Reading) (L : AreReadingLaws R) where
       → IsTrue (is_count (length old)) → 0 < length old / 2
       → low ≡ take (length old / 2) old → high ≡ drop (length old / 2) old
       → length low ≡ length old / 2 → length high ≡ length old / 2
-      → column R b low2 ≡ gather R.field (halvings (length low)) (column R b low) s
-      → column R b high2 ≡ gather R.field (halvings (length high)) (column R b high) (s + length old / 2)
+      → column R b low2 ≡ gather R.field (transform_halvings (length low)) (column R b low) s
+      → column R b high2 ≡ gather R.field (transform_halvings (length high)) (column R b high) (s + length old / 2)
       → column R b high3 ≡ bytes_sum (column R b low2) (column R b high2)
       → column R b low3 ≡ bytes_sum (column R b low2) (multiple R.field (s / (length old / 2)) (column R b high3))
-      → column R b (low3 ++ high3) ≡ gather R.field (halvings (length old)) (column R b old) s
+      → column R b (low3 ++ high3) ≡ gather R.field (transform_halvings (length old)) (column R b old) s
   gather-halves old low high low2 high2 low3 high3 s b count several el eh ll lh rl rh sh sl =
       let n : ℕ = length old / 2 in
-      let d : ℕ = halvings (length old / 2) in
+      let d : ℕ = transform_halvings (length old / 2) in
       let half = count-half (length old) count (not_one (length old) several) in
       let cl : column R b low2 ≡ gather R.field d (take n (column R b old)) s =
-      rl ∙ ap₂ (λ (k : ℕ) (x : List ℕ). gather R.field (halvings k) x s) ll (ap (column R b) el ∙ column-take R L b n old) in
+      rl ∙ ap₂ (λ (k : ℕ) (x : List ℕ). gather R.field (transform_halvings k) x s) ll (ap (column R b) el ∙ column-take R L b n old) in
       let ch : column R b high2 ≡ gather R.field d (drop n (column R b old)) (s + n) =
-      rh ∙ ap₂ (λ (k : ℕ) (x : List ℕ). gather R.field (halvings k) x (s + n)) lh (ap (column R b) eh ∙ column-drop R L b n old) in
+      rh ∙ ap₂ (λ (k : ℕ) (x : List ℕ). gather R.field (transform_halvings k) x (s + n)) lh (ap (column R b) eh ∙ column-drop R L b n old) in
       column-append R L b low3 high3
       ∙ gather-suc d n (column R b old) (column R b low3) (column R b high3) s (power_halvings n half.0)
       (sh ∙ ap₂ bytes_sum cl ch)

@@ -3,11 +3,11 @@ use Rattle.std.specs.Prelude.{◌≡◌, ◌+◌, ◌%◌, ◌≤◌, ℕ, List,
 use Rattle.gf_cantor.specs.Field.{size}
 use Rattle.namespace_id.specs.Shares.{AreShares}
 use Rattle.namespace_id.specs.declared.shares.Share.{Share}
-use Rattle.lch_fft.specs.Readings.{Reading}
+use Rattle.lch_fft.specs.Readings.{LabelReading}
 use Rattle.lch_fft.specs.Transforms.{is_count, Evaluates}
 
 -- values at the points of an aligned subspace come from one list of coefficients
-abbrev pub OneListOfCoefficients : Reading → Type 0
+abbrev pub OneListOfCoefficients : LabelReading → Type 0
 OneListOfCoefficients r = (shift : ℕ) (coefficients others values : List Share)
     → IsTrue (is_count (length values)) → shift % length values ≡ 0 → shift + length values ≤ size r.field
     → AreShares coefficients → AreShares others → Evaluates r shift coefficients values

@@ -40,8 +40,8 @@ listed-lt (suc n) f h zero = h 0
 listed-lt (suc n) f h (suc i) = listed-lt n (λ j. f (suc j)) (λ j. h (suc j)) i
 
 -- a share by its bytes
-share_of : (f : ℕ → ℕ) → ((b : ℕ) → f b < 256) → (share : Share) × IsShare share × ((b : ℕ) → b < 512 → get_or share.0 b 0 ≡ f b)
-share_of f h = (record { 0 = listed 512 f }, record { size_is = length-listed 512 f; fits = listed-lt 512 f h }, get_or-listed 512 f)
+share_by_bytes : (f : ℕ → ℕ) → ((b : ℕ) → f b < 256) → (share : Share) × IsShare share × ((b : ℕ) → b < 512 → get_or share.0 b 0 ≡ f b)
+share_by_bytes f h = (record { 0 = listed 512 f }, record { size_is = length-listed 512 f; fits = listed-lt 512 f h }, get_or-listed 512 f)
 
 -- the lower bytes of equal words are equal, and the higher ones
 word_tells : (x y z w : ℕ) → x < 256 → z < 256 → x + 256 * y ≡ z + 256 * w → (x ≡ z) × (y ≡ w)
@@ -107,7 +107,7 @@ high_from f c =
 share_of_words : (f : ℕ → ℕ) → ((c : ℕ) → f c < 65536) → (share : Share) × IsShare share × ((c : ℕ) → c < 256 → word share.0 c ≡ f c)
 unfolding word
 share_of_words f h =
-    let made = share_of (byte_from f) (byte_from-lt f h) in (
+    let made = share_by_bytes (byte_from f) (byte_from-lt f h) in (
       made.0,
       made.1,
       λ c l.
@@ -142,7 +142,7 @@ byte_reading_laws = record {
   laws = byte_laws;
   below = λ share h c. h.fits c;
   told = same_share;
-  made = share_of;
+  made = share_by_bytes;
   sum = λ acc row new ha hr sum. sum;
 }
 

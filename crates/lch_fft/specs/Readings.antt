@@ -9,22 +9,22 @@ use Rattle.namespace_id.specs.Shares.{IsShare}
 use Rattle.namespace_id.specs.Sizes.{share_size}
 
 -- a field, how many columns of its labels a share has, and how a column is read
-pub record Reading : Type 0 where
+pub record LabelReading : Type 0 where
   pub field : Field
   pub columns : ℕ
   -- the label in a column, of the bytes of a share
   pub label_at : List ℕ → ℕ → ℕ
 
 -- each byte is a label
-unfoldable pub byte_reading : Reading
+unfoldable pub byte_reading : LabelReading
 byte_reading = record { field = byte_field; columns = share_size; label_at = λ bytes c. slice_index bytes c }
 
 -- each word is one
-unfoldable pub word_reading : Reading
+unfoldable pub word_reading : LabelReading
 word_reading = record { field = word_field; columns = 256; label_at = word }
 
 -- what holds of a reading: labels are a field, and a share is a label in each column, any labels and no others
-pub record AreReadingLaws (reading : Reading) : Type 0 where
+pub record AreReadingLaws (reading : LabelReading) : Type 0 where
   pub laws : AreFieldLaws reading.field
   pub below : (share : Share) → IsShare share → (c : ℕ) → reading.label_at share.0 c < size reading.field
   pub told : (share other : Share) → IsShare share → IsShare other

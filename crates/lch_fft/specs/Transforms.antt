@@ -3,7 +3,7 @@ use Rattle.std.specs.Prelude.{◌≡◌, ℕ, zero, suc, ◌+◌, ◌/◌, ◌%�
 use Rattle.gf_cantor.specs.Field.{Field, product, bits}
 use Rattle.namespace_id.specs.declared.shares.Share.{Share}
 use Rattle.namespace_id.specs.Powers.{is_power}
-use Rattle.lch_fft.specs.Readings.{Reading}
+use Rattle.lch_fft.specs.Readings.{LabelReading}
 
 -- the subspace polynomials: s_0(x) = x, and s_(i+1)(x) = s_i(x)^2 + s_i(x)
 unfoldable pub subspace : Field → ℕ → ℕ → ℕ
@@ -29,12 +29,12 @@ abbrev pub value : Field → List ℕ → ℕ → ℕ
 value f ds x = sum_from f 0 ds x
 
 -- the labels in one column of each share
-unfoldable pub column : Reading → ℕ → List Share → List ℕ
+unfoldable pub column : LabelReading → ℕ → List Share → List ℕ
 column r c [] = []
 column r c (share ∷ shares) = r.label_at share.0 c ∷ column r c shares
 
 -- in each column, entry i of the values is the sum of d_j * X_j at the point shift + i, for the coefficients d_j
-pub record Evaluates (r : Reading) (shift : ℕ) (coefficients values : List Share) : Type 0 where
+pub record Evaluates (r : LabelReading) (shift : ℕ) (coefficients values : List Share) : Type 0 where
   pub count : length values ≡ length coefficients
   pub labels : (c i : ℕ) → c < r.columns → i < length values
       → slice_index (column r c values) i ≡ value r.field (column r c coefficients) (shift + i)

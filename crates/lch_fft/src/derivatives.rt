@@ -2,7 +2,7 @@
 
 ghost use Rattle.std.specs.Prelude.{◌≡◌, ◌<◌, ℕ, IsTrue, length};
 ghost use Rattle.lch_fft.specs.Transforms.{column, is_count};
-ghost use Rattle.lch_fft.specs.Butterflies.{bytes_sum, halvings};
+ghost use Rattle.lch_fft.specs.Butterflies.{bytes_sum, transform_halvings};
 ghost use Rattle.lch_fft.specs.Derivatives.{slopes, IsDerived};
 
 use crate::butterflies::add_row;
@@ -31,7 +31,7 @@ fn clear<M: Factor>(share: &mut Share)
 fn derive_halves<M: Factor>(shares: &mut [Share])
     requires { IsTrue (is_count (length shares.old)) }
     ensures { (c : ℕ) → c < M.reading.columns → column M.reading c shares.new ≡
-        slopes (halvings (length shares.old)) (column M.reading c shares.old) }
+        slopes (transform_halvings (length shares.old)) (column M.reading c shares.old) }
 {
     let half = shares.len() / 2;
     if half == 0 {

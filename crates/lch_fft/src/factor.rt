@@ -3,7 +3,7 @@
 ghost use Rattle.std.specs.Prelude.{◌≡◌, ◌<◌, ◌-◌, ℕ, bit_xor};
 ghost use Rattle.gf_cantor.specs.Field.{label as label_in, power, product, size};
 ghost use Rattle.gf_cantor.specs.Laws.{ArePowerLaws};
-ghost use Rattle.lch_fft.specs.Readings.{Reading, AreReadingLaws, byte_reading, word_reading};
+ghost use Rattle.lch_fft.specs.Readings.{LabelReading, AreReadingLaws, byte_reading, word_reading};
 ghost use Rattle.lch_fft.specs.ReadingLaws.{byte_reading_laws, word_reading_laws, byte_reading_powers, word_reading_powers};
 
 use gf_cantor::{ByteFactor, WordFactor, exp, log, word_exp, word_log};
@@ -15,7 +15,7 @@ use namespace_id::SHARE_SIZE;
 /// docs/RULES.md, "The code".
 pub trait Factor: Drop {
     /// How shares are read.
-    ghost reading: { Reading };
+    ghost reading: { LabelReading };
 
     /// The label.
     ghost label: { Self → ℕ };

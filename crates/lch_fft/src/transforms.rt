@@ -17,7 +17,7 @@ ghost use Rattle.namespace_id.specs.Shares.{AreShares};
 ghost use Rattle.namespace_id.specs.declared.shares.Share.{Share as ShareValue};
 ghost use Rattle.lch_fft.specs.Readings.{AreReadingLaws};
 ghost use Rattle.lch_fft.specs.Transforms.{column, subspace, is_count, Evaluates};
-ghost use Rattle.lch_fft.specs.Butterflies.{spread, gather, halvings};
+ghost use Rattle.lch_fft.specs.Butterflies.{spread, gather, transform_halvings};
 ghost use Rattle.lch_fft.specs.Laws.{OneListOfCoefficients};
 
 use crate::butterflies::{gather_stage, spread_stage};
@@ -30,7 +30,7 @@ fn spread_halves<M: Factor>(shares: &mut [Share], shift: usize)
     requires fits { shift + length shares.old ≤ size M.reading.field }
     requires small { shift + length shares.old < 2 ^ 17 }
     ensures { (c : ℕ) → c < M.reading.columns → column M.reading c shares.new ≡ spread M.reading.field
-        (halvings (length shares.old)) (column M.reading c shares.old) shift }
+        (transform_halvings (length shares.old)) (column M.reading c shares.old) shift }
 {
     let half = shares.len() / 2;
     if half > 0 {
@@ -47,7 +47,7 @@ fn gather_halves<M: Factor>(shares: &mut [Share], shift: usize)
     requires fits { shift + length shares.old ≤ size M.reading.field }
     requires small { shift + length shares.old < 2 ^ 17 }
     ensures { (c : ℕ) → c < M.reading.columns → column M.reading c shares.new ≡ gather M.reading.field
-        (halvings (length shares.old)) (column M.reading c shares.old) shift }
+        (transform_halvings (length shares.old)) (column M.reading c shares.old) shift }
 {
     let half = shares.len() / 2;
     if half > 0 {

@@ -4,7 +4,7 @@ use Rattle.std.proofs.lemmas.Bool.{cases_lt, lt-ltb, le-ltb}
 use Rattle.std.proofs.lemmas.Bool.Decides.{nat_tests}
 use Rattle.gf_cantor.specs.Field.{size, byte_field, word_field}
 use Rattle.namespace_id.specs.Cells.{is_width}
-use Rattle.lch_fft.specs.Readings.{Reading, AreReadingLaws, byte_reading, word_reading}
+use Rattle.lch_fft.specs.Readings.{LabelReading, AreReadingLaws, byte_reading, word_reading}
 use Rattle.lch_fft.specs.ReadingLaws.{byte_reading_laws, word_reading_laws}
 use Rattle.lch_fft.specs.Transforms.{is_count}
 use Rattle.leopard_code.specs.Codewords.{reading_of, HasCode}
@@ -20,7 +20,7 @@ unfolding reading_of
 reads_words k h = sym (ap (λ (t : Bool). if t then word_reading else byte_reading) (lt-ltb 128 k h))
 
 -- a fact of both readings is one of that of each width
-of_each : (P : Reading → Type 0) (k : ℕ) → (k ≤ 128 → P byte_reading) → (128 < k → P word_reading) → P (reading_of k)
+of_each : (P : LabelReading → Type 0) (k : ℕ) → (k ≤ 128 → P byte_reading) → (128 < k → P word_reading) → P (reading_of k)
 of_each P k bytes words = elim (cases_lt 128 k) [
   | inl above ↦ subst P (reads_words k above) (words above)
   | inr low ↦ subst P (reads_bytes k low) (bytes low)
@@ -49,7 +49,7 @@ double_code_count k width = grind (arith, nat_tests)
 labels_fit : (k : ℕ) → IsTrue (is_width k) → 2 * k ≤ size (reading_of k).field
 unfolding byte_reading byte_field word_reading word_field
 labels_fit k width =
-    of_each (λ (r : Reading). 2 * k ≤ size r.field) k
+    of_each (λ (r : LabelReading). 2 * k ≤ size r.field) k
     (λ low. let few : 2 * k ≤ 256 = omega arith in few)
     (λ above. let few : 2 * k ≤ 65536 = omega (arith, code_width-le k width) in few)
 
@@ -58,5 +58,5 @@ pub width_code : (k : ℕ) → IsTrue (is_width k) → HasCode (reading_of k).fi
 width_code k width = record { count = double_code_count k width; fits = labels_fit k width }
 
 -- the same of a reading that is the width's
-pub code_fits : (r : Reading) (k : ℕ) → IsTrue (is_width k) → r ≡ reading_of k → 2 * k ≤ size r.field
-code_fits r k width same = subst (λ (s : Reading). 2 * k ≤ size s.field) (sym same) (labels_fit k width)
+pub code_fits : (r : LabelReading) (k : ℕ) → IsTrue (is_width k) → r ≡ reading_of k → 2 * k ≤ size r.field
+code_fits r k width same = subst (λ (s : LabelReading). 2 * k ≤ size s.field) (sym same) (labels_fit k width)

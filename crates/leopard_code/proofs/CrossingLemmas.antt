@@ -8,7 +8,7 @@ use Rattle.namespace_id.specs.declared.shares.Share.{Share}
 use Rattle.namespace_id.specs.Shares.{IsShare, AreShares}
 use Rattle.namespace_id.specs.Lists.{ascending}
 use Rattle.namespace_id.proofs.AscendingLemmas.{length-ascending}
-use Rattle.lch_fft.specs.Readings.{Reading, AreReadingLaws}
+use Rattle.lch_fft.specs.Readings.{LabelReading, AreReadingLaws}
 use Rattle.lch_fft.specs.Transforms.{column}
 use Rattle.lch_fft.specs.Butterflies.{bytes_sum, multiple}
 use Rattle.lch_fft.proofs.ByteLemmas.{length-bytes_sum, length-multiple, get_or-bytes_sum}
@@ -30,7 +30,7 @@ shares_each : (shares : List Share) → ((i : ℕ) → i < length shares → IfS
 shares_each [] each = tt
 shares_each (share ∷ shares) each = (each 0 (omega arith), shares_each shares (λ i h. each (suc i) (omega arith)))
 
-module _ (R : Reading) (L : AreReadingLaws R) where
+module _ (R : LabelReading) (L : AreReadingLaws R) where
   -- the sum of the lists from one number on, each times its weight; the first weight stands alone
   unfoldable lists_sum : (ℕ → List ℕ) → ℕ → ℕ → List ℕ → List ℕ
   lists_sum ys first w [] = multiple R.field w (ys first)

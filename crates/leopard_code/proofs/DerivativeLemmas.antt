@@ -10,7 +10,7 @@ use Rattle.label_polynomial.proofs.Derived.{derivative_at-sum, derivative_at-mul
 use Rattle.namespace_id.specs.declared.shares.Share.{Share}
 use Rattle.namespace_id.specs.Shares.{AreShares}
 use Rattle.lch_fft.specs.Transforms.{is_count, value, Evaluates}
-use Rattle.lch_fft.specs.Butterflies.{bytes_sum, halvings}
+use Rattle.lch_fft.specs.Butterflies.{bytes_sum, transform_halvings}
 use Rattle.lch_fft.specs.Derivatives.{slopes, IsDerived}
 use Rattle.lch_fft.proofs.CountLemmas.{power_halvings, halvings-le}
 use Rattle.lch_fft.proofs.DeriveLemmas.{is_slopes}
@@ -25,9 +25,9 @@ use Rattle.lch_fft.proofs.ColumnLemmas.{length-column}
 use Rattle.leopard_code.proofs.PointLemmas.{column_labels}
 use Rattle.leopard_code.proofs.NovelLemmas.{subspace_polynomial, value_at-subspace, coefficients, length-coefficients, AreCoefficients-coefficients, value_at-coefficients, AreCoefficients-front, AreCoefficients-back}
 use Rattle.gf_cantor.specs.Field.{product, bits, size}
-use Rattle.lch_fft.specs.Readings.{Reading, AreReadingLaws}
+use Rattle.lch_fft.specs.Readings.{LabelReading, AreReadingLaws}
 
-module _ (R : Reading) (L : AreReadingLaws R) where
+module _ (R : LabelReading) (L : AreReadingLaws R) where
   -- each s_i has the derivative 1
   pub derivative_at-subspace : (i x : ℕ) → derivative_at R.field (subspace_polynomial R.field L.laws i) x ≡ 1
   unfolding subspace_polynomial derivative_at value_at
@@ -86,11 +86,11 @@ module _ (R : Reading) (L : AreReadingLaws R) where
   pub formal_derivative : (old new : List Share) (b : ℕ) → IsTrue (is_count (length old)) → length old ≤ size R.field → AreShares old → IsDerived R old new
       → b < R.columns → IsFormalDerivative R old new b
   formal_derivative old new b count wide shares steps hb =
-      let d : ℕ = halvings (length old) in
+      let d : ℕ = transform_halvings (length old) in
       let ds : List ℕ = column R b old in
-      let few : halvings (length old) ≤ bits R.field = halvings-le (length old) (bits R.field) count wide in
-      let power : 2 ^ halvings (length old) ≡ length old = power_halvings (length old) count in
-      let as_many : length (column R b old) ≡ 2 ^ halvings (length old) = length-column R L b old ∙ sym power in
+      let few : transform_halvings (length old) ≤ bits R.field = halvings-le (length old) (bits R.field) count wide in
+      let power : 2 ^ transform_halvings (length old) ≡ length old = power_halvings (length old) count in
+      let as_many : length (column R b old) ≡ 2 ^ transform_halvings (length old) = length-column R L b old ∙ sym power in
       let bytes : AreCoefficients R.field (column R b old) = column_labels R L b old shares in record {
         polynomial = coefficients R.field L.laws d ds;
         count = length-coefficients R.field L.laws d ds as_many ∙ power;
@@ -105,12 +105,12 @@ module _ (R : Reading) (L : AreReadingLaws R) where
       → Evaluates R 0 middle old → IsDerived R middle derived → Evaluates R 0 derived new → AreDerivatives R old new
   derivatives old middle derived new count wide shares values steps found b hb =
       let n : ℕ = length old in
-      let d : ℕ = halvings (length old) in
+      let d : ℕ = transform_halvings (length old) in
       let ds : List ℕ = column R b middle in
       let long : length middle ≡ length old = sym values.count in
-      let few : halvings (length old) ≤ bits R.field = halvings-le (length old) (bits R.field) count wide in
-      let power : 2 ^ halvings (length old) ≡ length old = power_halvings (length old) count in
-      let as_many : length (column R b middle) ≡ 2 ^ halvings (length old) = length-column R L b middle ∙ long ∙ sym power in
+      let few : transform_halvings (length old) ≤ bits R.field = halvings-le (length old) (bits R.field) count wide in
+      let power : 2 ^ transform_halvings (length old) ≡ length old = power_halvings (length old) count in
+      let as_many : length (column R b middle) ≡ 2 ^ transform_halvings (length old) = length-column R L b middle ∙ long ∙ sym power in
       let bytes : AreCoefficients R.field (column R b middle) = column_labels R L b middle shares in
       let place : (x : ℕ) → x ≡ 0 + x = λ x. omega arith in (
         coefficients R.field L.laws d ds,
@@ -119,7 +119,7 @@ module _ (R : Reading) (L : AreReadingLaws R) where
         (λ x hx. value_at-coefficients R.field L.laws d ds x few (omega arith) as_many bytes ∙ ap (value R.field ds) (place x) ∙ sym (values.labels b x hb hx)),
         (λ x hx.
             derivative_at-coefficients d ds x few (omega arith) as_many bytes
-            ∙ ap (λ (m : ℕ). value R.field (slopes (halvings m) ds) x) (sym long)
+            ∙ ap (λ (m : ℕ). value R.field (slopes (transform_halvings m) ds) x) (sym long)
             ∙ ap (λ (l : List ℕ). value R.field l x) (sym (is_slopes R L middle derived b (subst (λ (m : ℕ). IsTrue (is_count m)) (sym long) count) steps hb))
             ∙ ap (value R.field (column R b derived)) (place x)
             ∙ sym (found.labels b x hb (omega (arith, found.count, steps.count)))),

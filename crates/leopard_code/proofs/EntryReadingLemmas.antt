@@ -13,19 +13,19 @@ use Rattle.lch_fft.proofs.ColumnLemmas.{length-column}
 use Rattle.leopard_code.proofs.PointLemmas.{column_labels}
 use Rattle.leopard_code.proofs.PositionLemmas.{points_differ, position-lt, takes-at, takes_each, length-points_at, get_or-points, length-points}
 use Rattle.gf_cantor.specs.Field.{size}
-use Rattle.lch_fft.specs.Readings.{Reading, AreReadingLaws}
+use Rattle.lch_fft.specs.Readings.{LabelReading, AreReadingLaws}
 
 -- the share has the values at x of the polynomials through the shares at the points
-abbrev pub IsEntry : Reading → List ℕ → List Share → ℕ → Share → Type 0
+abbrev pub IsEntry : LabelReading → List ℕ → List Share → ℕ → Share → Type 0
 IsEntry r xs shares x share = (b : ℕ) → b < r.columns → (cs : List ℕ) → length cs ≡ length xs → AreCoefficients r.field cs
     → PassesThrough r.field cs xs (column r b shares) → r.label_at share.0 b ≡ value_at r.field cs x
 
 -- the label of a share that a list may have
-abbrev pub byte_of : Reading → ℕ → Option Share → ℕ
+abbrev pub byte_of : LabelReading → ℕ → Option Share → ℕ
 byte_of r b None = 0
 byte_of r b (Some share) = r.label_at share.0 b
 
-module _ (R : Reading) (L : AreReadingLaws R) where
+module _ (R : LabelReading) (L : AreReadingLaws R) where
   -- the label of a column is that of the share at its place
   pub get_or-column : (b : ℕ) (ss : List Share) (i : ℕ) → get_or (column R b ss) i 0 ≡ byte_of R b (slice_get ss i)
   unfolding column

@@ -19,9 +19,9 @@ use Rattle.leopard_code.proofs.PointLemmas.{column_labels}
 use Rattle.leopard_code.proofs.PositionLemmas.{points_differ, position-lt, takes_each, length-points_at, value_at_position}
 use Rattle.leopard_code.proofs.EntryReadingLemmas.{IsEntry, byte_of, get_or-column, same_shares, rebuilt}
 use Rattle.gf_cantor.specs.Field.{product, size}
-use Rattle.lch_fft.specs.Readings.{Reading, AreReadingLaws}
+use Rattle.lch_fft.specs.Readings.{LabelReading, AreReadingLaws}
 
-module _ (R : Reading) (L : AreReadingLaws R) where
+module _ (R : LabelReading) (L : AreReadingLaws R) where
   -- a polynomial that takes a column takes the labels of the known entries at their points
   pub takes_known : (k : ℕ) (known : List ℕ) (cs ys zs : List ℕ) → IsTrue (are_positions k known) → length zs ≡ length known → PassesThrough R.field cs (points k) ys
       → ((i : ℕ) → i < length known → get_or ys (get_or known i 0) 0 ≡ get_or zs i 0) → PassesThrough R.field cs (points_at k known) zs

@@ -8,7 +8,7 @@ use Rattle.namespace_id.specs.Bytes.{AreBytes}
 use Rattle.namespace_id.specs.Shares.{IsShare, AreShares}
 use Rattle.label_polynomial.specs.Polynomial.{PassesThrough}
 use Rattle.label_polynomial.proofs.Sums.{sum, scaled, value_at-sum, value_at-scaled, length-sum, length-scaled, AreCoefficients-sum, AreCoefficients-scaled}
-use Rattle.lch_fft.specs.Readings.{Reading, AreReadingLaws}
+use Rattle.lch_fft.specs.Readings.{LabelReading, AreReadingLaws}
 use Rattle.lch_fft.specs.Transforms.{column}
 use Rattle.lch_fft.specs.Butterflies.{multiple}
 use Rattle.lch_fft.proofs.ByteLemmas.{length-bytes_sum, get_or-bytes_sum, AllLabels-bytes_sum}
@@ -40,7 +40,7 @@ length-shares_sum [] ts e = refl
 length-shares_sum (s ∷ ss) [] e = absurd (omega arith)
 length-shares_sum (s ∷ ss) (t ∷ ts) e = ap suc (length-shares_sum ss ts (omega arith))
 
-module _ (R : Reading) (L : AreReadingLaws R) where
+module _ (R : LabelReading) (L : AreReadingLaws R) where
   -- a column of a sum is the sum of the columns
   column-sum : (c : ℕ) (ss ts : List Share) → c < R.columns → AreShares ss → AreShares ts
       → column R c (shares_sum ss ts) ≡ bytes_sum (column R c ss) (column R c ts)

@@ -8,7 +8,7 @@ use Rattle.gf_cantor.specs.Field.{Field, product, size}
 use Rattle.gf_cantor.specs.Laws.{AreFieldLaws}
 use Rattle.gf_cantor.proofs.Laws.{product_comm, product_assoc, one-product}
 use Rattle.namespace_id.specs.declared.shares.Share.{Share}
-use Rattle.lch_fft.specs.Readings.{Reading}
+use Rattle.lch_fft.specs.Readings.{LabelReading}
 use Rattle.lch_fft.proofs.ColumnLemmas.{byte}
 use Rattle.leopard_code.specs.Locators.{missing_from, difference, apart_from}
 use Rattle.leopard_code.proofs.LocatorLemmas.{apart_from-lt}
@@ -53,13 +53,13 @@ slice_get-set_other (s ∷ all) (suc pos) zero share h = refl
 slice_get-set_other (s ∷ all) (suc pos) (suc q) share h = slice_get-set_other all pos q share (λ e. h (ap suc e))
 
 -- the labels of a share that is written
-pub byte-set_same : (r : Reading) (all : List Share) (pos b : ℕ) (share : Share) → pos < length all
+pub byte-set_same : (r : LabelReading) (all : List Share) (pos b : ℕ) (share : Share) → pos < length all
     → byte r (set all pos share) pos b ≡ r.label_at share.0 b
 byte-set_same r all pos b share h =
     ap (λ (s : Share). r.label_at s.0 b) (get_or-set_same all pos share (record { 0 = [] }) h)
 
 -- and those of any other
-pub byte-set_other : (r : Reading) (all : List Share) (pos q b : ℕ) (share : Share) → q ≢ pos
+pub byte-set_other : (r : LabelReading) (all : List Share) (pos q b : ℕ) (share : Share) → q ≢ pos
     → byte r (set all pos share) q b ≡ byte r all q b
 byte-set_other r all pos q b share h =
     ap (λ (s : Share). r.label_at s.0 b) (get_or-set_other all pos q share (record { 0 = [] }) h)

@@ -3,7 +3,7 @@ use Rattle.std.proofs.Common.{ℕ, zero, suc, ◌+◌, ◌<◌, ◌≤◌, List,
 use Rattle.namespace_id.specs.declared.shares.Share.{Share}
 use Rattle.namespace_id.specs.Shares.{AreShares}
 use Rattle.gf_cantor.specs.Field.{Field, size}
-use Rattle.lch_fft.specs.Readings.{Reading, AreReadingLaws}
+use Rattle.lch_fft.specs.Readings.{LabelReading, AreReadingLaws}
 use Rattle.lch_fft.specs.Transforms.{column}
 use Rattle.label_polynomial.specs.Polynomial.{AreCoefficients, Avoids, ArePoints, PassesThrough}
 use Rattle.namespace_id.specs.Lists.{ascending}
@@ -21,7 +21,7 @@ points-ascending f zero first h = tt
 points-ascending f (suc n) first h = (omega arith, avoids-ascending n first (suc first) (omega arith), points-ascending f n (suc first) (omega arith))
 
 -- a column has labels
-pub column_labels : (r : Reading) → AreReadingLaws r → (c : ℕ) (ss : List Share) → AreShares ss → AreCoefficients r.field (column r c ss)
+pub column_labels : (r : LabelReading) → AreReadingLaws r → (c : ℕ) (ss : List Share) → AreShares ss → AreCoefficients r.field (column r c ss)
 unfolding column AreCoefficients
 column_labels r laws c [] h = tt
 column_labels r laws c (s ∷ ss) h = (laws.below s h.0 c, column_labels r laws c ss h.1)

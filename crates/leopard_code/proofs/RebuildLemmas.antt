@@ -24,9 +24,9 @@ use Rattle.leopard_code.proofs.StandingLemmas.{stands, positions_rise}
 use Rattle.leopard_code.proofs.LocatorLemmas.{apart_from-avoids, apart_from-middle}
 use Rattle.leopard_code.proofs.ErasureLemmas.{away-root, missing_value}
 use Rattle.gf_cantor.specs.Field.{product, size}
-use Rattle.lch_fft.specs.Readings.{Reading, AreReadingLaws}
+use Rattle.lch_fft.specs.Readings.{LabelReading, AreReadingLaws}
 
-module _ (R : Reading) (L : AreReadingLaws R) where
+module _ (R : LabelReading) (L : AreReadingLaws R) where
   -- what the calls of `rebuild` make, one after another, of shares at known positions
   pub record IsRebuilding (k : ℕ) (known : List ℕ) (shares : List Share) (values : ℕ → ℕ) (blank multiplied derived divided word : List Share) : Type 0 where
     pub code : HasCode R.field k

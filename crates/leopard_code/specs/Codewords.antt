@@ -6,7 +6,7 @@ use Rattle.namespace_id.specs.declared.shares.Share.{Share}
 use Rattle.namespace_id.specs.Shares.{AreShares}
 use Rattle.namespace_id.specs.Lists.{holds_along, ascending}
 use Rattle.label_polynomial.specs.Polynomial.{AreCoefficients, PassesThrough}
-use Rattle.lch_fft.specs.Readings.{Reading, byte_reading, word_reading}
+use Rattle.lch_fft.specs.Readings.{LabelReading, byte_reading, word_reading}
 use Rattle.lch_fft.specs.Transforms.{is_count, column}
 use Rattle.lch_fft.specs.Butterflies.{multiple}
 unfoldable pub use Rattle.lch_fft.specs.Butterflies.{bytes_sum}
@@ -28,13 +28,13 @@ abbrev pub IsColumn : Field → ℕ → List ℕ → Type 0
 IsColumn f k labels = (cs : List ℕ) × (length cs ≡ k) × AreCoefficients f cs × PassesThrough f cs (points k) labels
 
 -- 2k shares, k originals and then k recovery shares, each column of labels a polynomial
-pub record IsCodewordOver (r : Reading) (k : ℕ) (word : List Share) : Type 0 where
+pub record IsCodewordOver (r : LabelReading) (k : ℕ) (word : List Share) : Type 0 where
   pub count : length word ≡ 2 * k
   pub shares : AreShares word
   pub columns : (c : ℕ) → c < r.columns → IsColumn r.field k (column r c word)
 
 -- how the code of a width reads shares: as bytes up to width 128, and as words above
-unfoldable pub reading_of : ℕ → Reading
+unfoldable pub reading_of : ℕ → LabelReading
 reading_of k = if nat_lt 128 k then word_reading else byte_reading
 
 -- the codewords of a width
@@ -67,7 +67,7 @@ shares_sum (share ∷ shares) [] = []
 shares_sum (share ∷ shares) (other ∷ others) = share_sum share other ∷ shares_sum shares others
 
 -- each label of the new shares is the multiple of that of the old ones
-pub record AreMultiples (r : Reading) (by : ℕ) (old new : List Share) : Type 0 where
+pub record AreMultiples (r : LabelReading) (by : ℕ) (old new : List Share) : Type 0 where
   pub count : length new ≡ length old
   pub shares : AreShares new
   pub columns : (c : ℕ) → c < r.columns → column r c new ≡ multiple r.field by (column r c old)

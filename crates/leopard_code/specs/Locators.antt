@@ -4,7 +4,7 @@ use Rattle.gf_cantor.specs.Field.{Field, label, power, product, size}
 use Rattle.namespace_id.specs.declared.shares.Share.{Share}
 use Rattle.label_polynomial.specs.Polynomial.{value_at, AreCoefficients}
 use Rattle.label_polynomial.specs.Derivatives.{derivative_at}
-use Rattle.lch_fft.specs.Readings.{Reading}
+use Rattle.lch_fft.specs.Readings.{LabelReading}
 use Rattle.lch_fft.specs.Transforms.{value, column}
 use Rattle.namespace_id.specs.Cells.{is_width}
 
@@ -29,14 +29,14 @@ abbrev pub label_of_power : Field → ℕ → ℕ
 label_of_power f exponent = label f (power f exponent)
 
 -- each new column has the values at 0, 1, .. of the derivative of a polynomial that takes the old labels there
-abbrev pub AreDerivatives : Reading → List Share → List Share → Type 0
+abbrev pub AreDerivatives : LabelReading → List Share → List Share → Type 0
 AreDerivatives r old new = (c : ℕ) → c < r.columns → (cs : List ℕ) × (length cs ≡ length old) × AreCoefficients r.field cs
     × ((x : ℕ) → x < length old → value_at r.field cs x ≡ slice_index (column r c old) x)
     × ((x : ℕ) → x < length old → derivative_at r.field cs x ≡ slice_index (column r c new) x)
 
 -- in a column, the sum of d_j * X_j with the new coefficients is the formal derivative of that with the old ones: of
 -- the polynomial that takes its values
-pub record IsFormalDerivative (r : Reading) (old new : List Share) (c : ℕ) : Type 0 where
+pub record IsFormalDerivative (r : LabelReading) (old new : List Share) (c : ℕ) : Type 0 where
   pub polynomial : List ℕ
   pub count : length polynomial ≡ length old
   pub labels : AreCoefficients r.field polynomial

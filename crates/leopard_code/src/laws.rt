@@ -4,7 +4,7 @@ ghost use Rattle.std.specs.Prelude.{◌≡◌, ◌<◌, ◌≤◌, ◌*◌, ℕ,
 ghost use Rattle.namespace_id.specs.declared.shares.Share.{Share};
 ghost use Rattle.namespace_id.specs.Shares.{AreShares};
 ghost use Rattle.gf_cantor.specs.Field.{size};
-ghost use Rattle.lch_fft.specs.Readings.{Reading, AreReadingLaws};
+ghost use Rattle.lch_fft.specs.Readings.{LabelReading, AreReadingLaws};
 ghost use Rattle.lch_fft.specs.Transforms.{is_count};
 ghost use Rattle.lch_fft.specs.Derivatives.{IsDerived};
 ghost use Rattle.leopard_code.specs.Locators.{IsFormalDerivative};
@@ -47,22 +47,22 @@ pub fn code_laws()
 
     // What `derive` of the transforms makes of coefficients of the X_j are those of the formal
     // derivative.
-    ensures derivative { (r : Reading) (old new : List Share) (c : ℕ) → AreReadingLaws r →
+    ensures derivative { (r : LabelReading) (old new : List Share) (c : ℕ) → AreReadingLaws r →
         IsTrue (is_count (length old)) → length old ≤ size r.field →
         AreShares old → IsDerived r old new → c < r.columns → IsFormalDerivative r old new c }
 
     // The first two laws and that of sums, over any reading.
-    ensures through_over { (r : Reading) (k : ℕ) (known : List ℕ) (shares : List Share) →
+    ensures through_over { (r : LabelReading) (k : ℕ) (known : List ℕ) (shares : List Share) →
         AreReadingLaws r → HasCode r.field k → length known ≡ k → IsTrue (are_positions k known) →
         length shares ≡ k → AreShares shares →
         (word : List Share) × IsCodewordOver r k word × HasEntries known shares word }
-    ensures one_over { (r : Reading) (k : ℕ) (known : List ℕ) (word other : List Share) →
+    ensures one_over { (r : LabelReading) (k : ℕ) (known : List ℕ) (word other : List Share) →
         AreReadingLaws r → HasCode r.field k → length known ≡ k → IsTrue (are_positions k known) →
         IsCodewordOver r k word → IsCodewordOver r k other →
         ((i : ℕ) → i < k →
         slice_get word (slice_index known i) ≡ slice_get other (slice_index known i)) →
         word ≡ other }
-    ensures sum_over { (r : Reading) (k : ℕ) (word other : List Share) → AreReadingLaws r →
+    ensures sum_over { (r : LabelReading) (k : ℕ) (word other : List Share) → AreReadingLaws r →
         IsCodewordOver r k word → IsCodewordOver r k other →
         IsCodewordOver r k (shares_sum word other) }
 {}

@@ -9,7 +9,7 @@ use Rattle.axis_roots.specs.Openings.{IsProved}
 use Rattle.axis_roots.specs.Claims.{ClaimParts, Accepts}
 use Rattle.light_node.specs.declared.events.Event.{Event}
 use Rattle.light_node.specs.declared.events.Event.TheVariants.{Sample, Claim}
-use Rattle.light_node.specs.Events.{IsShown, NoneAccepted, IsFirstAccepted}
+use Rattle.light_node.specs.Events.{IsShownCell, NoneAccepted, IsFirstAccepted}
 
 -- two samples that are one event are one
 same_sample : (m n : Message) → Sample m ≡ Sample n → m ≡ n
@@ -25,22 +25,22 @@ apart m c e = cc
 
 module _ (header : Roots) (events : List Event) where
   -- what was shown stays so
-  pub stays_shown : (event : Event) (cell : Cell) → IsShown header events cell
-      → IsShown header (events ++ event ∷ []) cell
+  pub stays_shown : (event : Event) (cell : Cell) → IsShownCell header events cell
+      → IsShownCell header (events ++ event ∷ []) cell
   stays_shown event cell (m, at, proved, is) =
       (m, Contains-append_left events (event ∷ []) (Sample m) at, proved, is)
 
   -- a claim shows nothing
-  pub claim_shows : (claim : ClaimParts) (cell : Cell) → IsShown header (events ++ Claim claim ∷ []) cell
-      → IsShown header events cell
+  pub claim_shows : (claim : ClaimParts) (cell : Cell) → IsShownCell header (events ++ Claim claim ∷ []) cell
+      → IsShownCell header events cell
   claim_shows claim cell (m, at, proved, is) = elim (Contains-push_cases events (Claim claim) (Sample m) at) [
     | inl before ↦ (m, before, proved, is)
     | inr e ↦ absurd (apart m claim (sym e))
   ]
 
   -- a sample shows no other cell than its own, and that only where it is proved
-  pub sample_shows : (m : Message) (cell : Cell) → IsShown header (events ++ Sample m ∷ []) cell
-      → IsShown header events cell ⊎ (IsProved header m × (m.cell ≡ cell))
+  pub sample_shows : (m : Message) (cell : Cell) → IsShownCell header (events ++ Sample m ∷ []) cell
+      → IsShownCell header events cell ⊎ (IsProved header m × (m.cell ≡ cell))
   sample_shows m cell (n, at, proved, is) = elim (Contains-push_cases events (Sample m) (Sample n) at) [
     | inl before ↦ inl (n, before, proved, is)
     | inr e ↦
@@ -50,7 +50,7 @@ module _ (header : Roots) (events : List Event) where
 
   -- and then it does
   pub shows_cell : (m : Message) (cell : Cell) → IsProved header m → m.cell ≡ cell
-      → IsShown header (events ++ Sample m ∷ []) cell
+      → IsShownCell header (events ++ Sample m ∷ []) cell
   shows_cell m cell proved is = (m, Contains-push events (Sample m), proved, is)
 
   -- the first accepted claim stays the first

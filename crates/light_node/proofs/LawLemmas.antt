@@ -15,7 +15,7 @@ use Rattle.light_node.specs.declared.events.LightState.{LightState}
 use Rattle.light_node.specs.declared.events.LightState.TheVariants as state
 use Rattle.light_node.specs.declared.events.Light.{Light}
 use Rattle.light_node.specs.declared.events.Light.TheVariants as light
-use Rattle.light_node.specs.Events.{IsShown, NoneAccepted, IsFirstAccepted, AllShown, IsWaitedFor, AreWaitedFor, IsState, IsLight, state_of}
+use Rattle.light_node.specs.Events.{IsShownCell, NoneAccepted, IsFirstAccepted, AllShown, IsWaitedFor, AreWaitedFor, IsState, IsLight, state_of_light}
 use Rattle.light_node.proofs.EventLemmas.{same_claim}
 
 -- ---- states
@@ -80,11 +80,11 @@ module _ (header : Roots) (plan : List Cell) (events others : List Event)
   none_there none = λ claim at accepts. none claim ((same (Claim claim)).1 at) accepts
 
   -- what is shown here is shown there
-  shown_there : (cell : Cell) → IsShown header events cell → IsShown header others cell
+  shown_there : (cell : Cell) → IsShownCell header events cell → IsShownCell header others cell
   shown_there cell (m, at, proved, is) = (m, (same (Sample m)).0 at, proved, is)
 
   -- and the other way round
-  shown_here : (cell : Cell) → IsShown header others cell → IsShown header events cell
+  shown_here : (cell : Cell) → IsShownCell header others cell → IsShownCell header events cell
   shown_here cell (m, at, proved, is) = (m, (same (Sample m)).1 at, proved, is)
 
   -- so a state says there what it says here
@@ -153,7 +153,7 @@ waits_one header plan events k (cell ∷ list) some are = (cell, (are.waited_for
 -- a verdict has its state
 pub light_state : (header : Roots) (plan : List Cell) (events : List Event) (one : Light) → IsLight header plan events
     one
-    → IsState header plan events (state_of one)
+    → IsState header plan events (state_of_light one)
 light_state header plan events (light.Waiting cells) (none, some, are) =
     (none, waits_one header plan events cells.k cells.list some are)
 light_state header plan events light.Available is = is

@@ -8,7 +8,7 @@ use Rattle.namespace_id.specs.declared.cells.Cell.{Cell}
 use Rattle.namespace_id.specs.Cells.{is_in_square}
 use Rattle.namespace_id.proofs.RoomLemmas.{all_each, each_all}
 use Rattle.light_node.specs.declared.events.Event.{Event}
-use Rattle.light_node.specs.Nodes.{NodeParts, IsNode, StandsFor, ArePicked, is_same, AreMarkedBefore, IsUnmarkedAt}
+use Rattle.light_node.specs.Nodes.{NodeParts, IsNode, NodeStands, ArePicked, is_same, AreMarkedBefore, IsUnmarkedAt}
 use Rattle.light_node.proofs.DistinctLemmas.{added, all_added-begins, all_added-only}
 use Rattle.light_node.proofs.ListLemmas.{place_of, place_cases, place_front}
 
@@ -97,9 +97,9 @@ module _ {F : Type 0} (can_pick : F → ℕ → Type 0) (picks : F → ℕ → C
   }
 
   -- it stands for the longer plan
-  pub stands_more : (next : ℕ) (plan : List Cell) (events : List Event) → StandsFor picks node plan events
+  pub stands_more : (next : ℕ) (plan : List Cell) (events : List Event) → NodeStands picks node plan events
       → (cells : List Cell) × (length cells ≡ n)
-      × StandsFor picks (record node { planned = node.planned + n; wanted = wanted; next = next }) (plan ++ cells)
+      × NodeStands picks (record node { planned = node.planned + n; wanted = wanted; next = next }) (plan ++ cells)
       events
   stands_more next plan events stands = (
     are.cells,

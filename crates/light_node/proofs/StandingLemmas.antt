@@ -11,7 +11,7 @@ use Rattle.light_node.specs.declared.events.Event.TheVariants.{Claim}
 use Rattle.light_node.specs.declared.events.LightState.{LightState}
 use Rattle.light_node.specs.declared.events.LightState.TheVariants as state
 use Rattle.light_node.specs.Events.{IsFirstAccepted, IsState}
-use Rattle.light_node.specs.Nodes.{NodeParts, StandsFor, distinct}
+use Rattle.light_node.specs.Nodes.{NodeParts, NodeStands, distinct}
 use Rattle.light_node.proofs.DistinctLemmas.{all_added-have, all_added-only}
 use Rattle.light_node.proofs.EventLemmas.{stays_shown, claim_shows, first_kept, none_by_claim}
 
@@ -61,10 +61,10 @@ first_without header events claim None refused none = none_by_claim header event
 first_without header events claim (Some first) refused is = first_kept header events (Claim claim) first is
 
 module _ {F : Type 0} (picks : F → ℕ → Cell → Type 0) (node : NodeParts F) (plan : List Cell) (events : List Event)
-    (claim : ClaimParts) (stands : StandsFor picks node plan events) where
+    (claim : ClaimParts) (stands : NodeStands picks node plan events) where
   -- a node stands for one claim more, where its first one is the first of them
   claim_more : IsFirstAccepted node.header (events ++ Claim claim ∷ []) node.claim
-      → StandsFor picks node plan (events ++ Claim claim ∷ [])
+      → NodeStands picks node plan (events ++ Claim claim ∷ [])
   claim_more first = record {
     count = stands.count;
     picked = stands.picked;
@@ -77,12 +77,12 @@ module _ {F : Type 0} (picks : F → ℕ → Cell → Type 0) (node : NodeParts 
   }
 
   -- where it isn't accepted
-  pub stands_refused : (Accepts node.header claim → ⊥) → StandsFor picks node plan (events ++ Claim claim ∷ [])
+  pub stands_refused : (Accepts node.header claim → ⊥) → NodeStands picks node plan (events ++ Claim claim ∷ [])
   stands_refused refused = claim_more (first_without node.header events claim node.claim refused stands.claim)
 
   -- and where one was before
   pub stands_later : (first : ClaimParts) → node.claim ≡ Some first
-      → StandsFor picks node plan (events ++ Claim claim ∷ [])
+      → NodeStands picks node plan (events ++ Claim claim ∷ [])
   stands_later first is =
       claim_more (subst (IsFirstAccepted node.header (events ++ Claim claim ∷ [])) (sym is)
       (first_kept node.header events (Claim claim) first (subst (IsFirstAccepted node.header events) is stands.claim)))

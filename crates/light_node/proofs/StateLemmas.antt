@@ -11,14 +11,14 @@ use Rattle.namespace_id.proofs.RoomLemmas.{all_each}
 use Rattle.data_header.specs.Headers.{Roots}
 use Rattle.axis_roots.specs.Claims.{ClaimParts}
 use Rattle.light_node.specs.declared.events.Event.{Event}
-use Rattle.light_node.specs.Events.{IsShown, NoneAccepted, IsFirstAccepted, AllShown, IsWaitedFor, AreWaitedFor}
+use Rattle.light_node.specs.Events.{IsShownCell, NoneAccepted, IsFirstAccepted, AllShown, IsWaitedFor, AreWaitedFor}
 use Rattle.light_node.specs.Plans.{IsNextWanted}
-use Rattle.light_node.specs.Nodes.{NodeParts, IsNode, StandsFor, is_marked, IsUnmarkedIn}
+use Rattle.light_node.specs.Nodes.{NodeParts, IsNode, NodeStands, is_marked, IsUnmarkedIn}
 use Rattle.light_node.proofs.DistinctLemmas.{all_added-have, all_added-only}
 use Rattle.light_node.proofs.FailingLemmas.{first_failing, first_failing-added, first_failing-at, none_failing, some_failing}
 
 module _ {F : Type 0} (can_pick : F → ℕ → Type 0) (picks : F → ℕ → Cell → Type 0) (node : NodeParts F)
-    (good : IsNode can_pick picks node) (plan : List Cell) (events : List Event) (stands : StandsFor picks node plan
+    (good : IsNode can_pick picks node) (plan : List Cell) (events : List Event) (stands : NodeStands picks node plan
     events) where
   -- a planned cell is wanted
   pub planned_wanted : (cell : Cell) → Contains plan cell → Contains node.wanted cell
@@ -69,7 +69,7 @@ module _ {F : Type 0} (can_pick : F → ℕ → Type 0) (picks : F → ℕ → C
       ]
 
   -- a cell that isn't shown isn't marked
-  unshown_unmarked : (cell : Cell) → is_in_square node.header.k cell ≡ true → (IsShown node.header events cell → ⊥)
+  unshown_unmarked : (cell : Cell) → is_in_square node.header.k cell ≡ true → (IsShownCell node.header events cell → ⊥)
       → is_marked node.header.k node.shown cell ≡ false
   unshown_unmarked cell within isnt = elim (cases_Bool (is_marked node.header.k node.shown cell)) [
     | inl marked ↦ absurd (isnt ((stands.shown cell within).0 marked))

@@ -15,7 +15,7 @@ use Rattle.light_node.specs.declared.events.Event.{Event}
 use Rattle.light_node.specs.declared.events.Event.TheVariants.{Sample, Claim}
 use Rattle.light_node.specs.Events.{NoneAccepted, IsFirstAccepted}
 use Rattle.light_node.specs.Plans.{PicksInside}
-use Rattle.light_node.specs.Nodes.{NodeParts, IsNode, StandsFor, is_marked, AreMarkedBefore, IsUnmarkedAt}
+use Rattle.light_node.specs.Nodes.{NodeParts, IsNode, NodeStands, is_marked, AreMarkedBefore, IsUnmarkedAt}
 use Rattle.light_node.proofs.EventLemmas.{stays_shown, claim_shows, sample_shows, shows_cell, first_kept, first_by_sample, first_by_claim, none_by_claim}
 
 -- ---- the first accepted claim
@@ -90,11 +90,11 @@ unmarked_at k m marks same cells listed next e f g unmarked =
 -- ---- what a node stands for
 
 module _ {F : Type 0} (picks : F → ℕ → Cell → Type 0) (node : NodeParts F) (plan : List Cell) (events : List Event)
-    (stands : StandsFor picks node plan events) where
+    (stands : NodeStands picks node plan events) where
   -- a claim shows no cell
   pub stands_claim : (claim : ClaimParts) (kept : Option ClaimParts)
       → IsFirstAccepted node.header (events ++ Claim claim ∷ []) kept
-      → StandsFor picks (record node { claim = kept }) plan (events ++ Claim claim ∷ [])
+      → NodeStands picks (record node { claim = kept }) plan (events ++ Claim claim ∷ [])
   stands_claim claim kept first = record {
     count = stands.count;
     picked = stands.picked;
@@ -107,7 +107,7 @@ module _ {F : Type 0} (picks : F → ℕ → Cell → Type 0) (node : NodeParts 
   }
 
   -- a sample that isn't proved shows none either
-  pub stands_refused : (m : Message) → (IsProved node.header m → ⊥) → StandsFor picks node plan (events ++ Sample m ∷
+  pub stands_refused : (m : Message) → (IsProved node.header m → ⊥) → NodeStands picks node plan (events ++ Sample m ∷
       [])
   stands_refused m refused = record {
     count = stands.count;
@@ -125,7 +125,7 @@ module _ {F : Type 0} (picks : F → ℕ → Cell → Type 0) (node : NodeParts 
 
   -- nor does one of a cell that is marked show another
   pub stands_marked : (m : Message) → is_in_square node.header.k m.cell ≡ true
-      → is_marked node.header.k node.shown m.cell ≡ true → StandsFor picks node plan (events ++ Sample m ∷ [])
+      → is_marked node.header.k node.shown m.cell ≡ true → NodeStands picks node plan (events ++ Sample m ∷ [])
   stands_marked m inside marked = record {
     count = stands.count;
     picked = stands.picked;
@@ -143,7 +143,7 @@ module _ {F : Type 0} (picks : F → ℕ → Cell → Type 0) (node : NodeParts 
   -- one that is proved shows its cell
   pub stands_sample : (m : Message) (marks : List Bool) (next : ℕ) → IsProved node.header m
       → AreMarkedToo node.header.k node.shown marks m.cell
-      → StandsFor picks (record node { shown = marks; next = next }) plan (events ++ Sample m ∷ [])
+      → NodeStands picks (record node { shown = marks; next = next }) plan (events ++ Sample m ∷ [])
   stands_sample m marks next proved marked_too = record {
     count = stands.count;
     picked = stands.picked;

@@ -15,8 +15,8 @@ use Rattle.light_node.specs.declared.events.Light.{Light}
 use Rattle.light_node.specs.declared.events.Light.TheVariants as light
 
 -- a sample among the events is proved under the header and shows this cell
-abbrev pub IsShown : Roots → List Event → Cell → Type 0
-IsShown header events cell = (m : Message) × Contains events (Sample m) × IsProved header m × (m.cell ≡ cell)
+abbrev pub IsShownCell : Roots → List Event → Cell → Type 0
+IsShownCell header events cell = (m : Message) × Contains events (Sample m) × IsProved header m × (m.cell ≡ cell)
 
 -- no claim among the events is accepted under the header
 abbrev pub NoneAccepted : Roots → List Event → Type 0
@@ -30,11 +30,11 @@ IsFirstAccepted header events (Some claim) = Accepts header claim
 
 -- each planned cell is shown
 abbrev pub AllShown : Roots → List Cell → List Event → Type 0
-AllShown header plan events = (cell : Cell) → Contains plan cell → IsShown header events cell
+AllShown header plan events = (cell : Cell) → Contains plan cell → IsShownCell header events cell
 
 -- a planned cell that isn't shown
 abbrev pub IsWaitedFor : Roots → List Cell → List Event → Cell → Type 0
-IsWaitedFor header plan events cell = Contains plan cell × (IsShown header events cell → ⊥)
+IsWaitedFor header plan events cell = Contains plan cell × (IsShownCell header events cell → ⊥)
 
 -- the planned cells that aren't shown, row-major
 pub record AreWaitedFor (header : Roots) (plan : List Cell) (events : List Event) (cells : CellList) : Type 0 where
@@ -58,7 +58,7 @@ IsLight header plan events light.Available = NoneAccepted header events × AllSh
 IsLight header plan events (light.Rejected claim) = IsFirstAccepted header events (Some claim)
 
 -- the state that goes with a verdict
-abbrev pub state_of : Light → LightState
-state_of (light.Waiting cells) = state.Waiting
-state_of light.Available = state.Available
-state_of (light.Rejected claim) = state.Rejected
+abbrev pub state_of_light : Light → LightState
+state_of_light (light.Waiting cells) = state.Waiting
+state_of_light light.Available = state.Available
+state_of_light (light.Rejected claim) = state.Rejected

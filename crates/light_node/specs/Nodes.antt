@@ -7,8 +7,8 @@ use Rattle.namespace_id.specs.Cells.{is_width, is_in_square}
 use Rattle.data_header.specs.Headers.{Roots}
 use Rattle.axis_roots.specs.Claims.{ClaimParts}
 use Rattle.light_node.specs.declared.events.Event.{Event}
-use Rattle.light_node.specs.Events.{IsShown, IsFirstAccepted}
-use Rattle.light_node.specs.Plans.{PicksInside, IsPlan}
+use Rattle.light_node.specs.Events.{IsShownCell, IsFirstAccepted}
+use Rattle.light_node.specs.Plans.{PicksInside, IsPlanOf}
 
 -- a light node as contracts see it: its header, its picker with the number below which that may be asked, how many
 -- cells it planned, these cells, each once, where it comes first, whether each cell of the square is shown, row-major,
@@ -73,17 +73,17 @@ pub record ArePicked {F : Type 0} (picks : F → ℕ → Cell → Type 0) (pick 
   pub added : new ≡ fold (insert_key is_same) old cells
 
 -- a node stands for the cells that it planned, in their order, and for the events that it was handed
-pub record StandsFor {F : Type 0} (picks : F → ℕ → Cell → Type 0) (node : NodeParts F) (plan : List Cell)
+pub record NodeStands {F : Type 0} (picks : F → ℕ → Cell → Type 0) (node : NodeParts F) (plan : List Cell)
     (events : List Event) : Type 0 where
   pub count : length plan ≡ node.planned
-  pub picked : IsPlan picks node.pick plan
+  pub picked : IsPlanOf picks node.pick plan
   pub wanted : node.wanted ≡ distinct plan
   pub shown : (cell : Cell) → is_in_square node.header.k cell ≡ true
-      → (is_marked node.header.k node.shown cell ≡ true) ↔ IsShown node.header events cell
+      → (is_marked node.header.k node.shown cell ≡ true) ↔ IsShownCell node.header events cell
   pub claim : IsFirstAccepted node.header events node.claim
 
 -- what no call changes: the header, the picker, and how often that may be asked
-pub record IsSame {F : Type 0} (old new : NodeParts F) : Type 0 where
+pub record IsSameNode {F : Type 0} (old new : NodeParts F) : Type 0 where
   pub header : new.header ≡ old.header
   pub limit : new.limit ≡ old.limit
   pub pick : new.pick ≡ old.pick

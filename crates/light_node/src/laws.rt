@@ -10,8 +10,8 @@ ghost use Rattle.light_node.specs.declared.events.Event.TheVariants.{Claim};
 ghost use Rattle.light_node.specs.declared.events.LightState.{LightState};
 ghost use Rattle.light_node.specs.declared.events.LightState.TheVariants as state;
 ghost use Rattle.light_node.specs.declared.events.Light.{Light};
-ghost use Rattle.light_node.specs.Events.{IsFirstAccepted, IsState, IsLight, state_of};
-ghost use Rattle.light_node.specs.Nodes.{NodeParts, StandsFor, distinct};
+ghost use Rattle.light_node.specs.Events.{IsFirstAccepted, IsState, IsLight, state_of_light};
+ghost use Rattle.light_node.specs.Nodes.{NodeParts, NodeStands, distinct};
 
 use crate::Picker;
 
@@ -24,7 +24,7 @@ pub fn light_laws()
         (one other : LightState) →
         IsState header plan events one → IsState header plan events other → one ≡ other }
     ensures state { (header : Roots) (plan : List Cell) (events : List Event) (light : Light) →
-        IsLight header plan events light → IsState header plan events (state_of light) }
+        IsLight header plan events light → IsState header plan events (state_of_light light) }
 
     // The order of events and their repeats change no state.
     ensures order { (header : Roots) (plan : List Cell) (events others : List Event)
@@ -54,10 +54,10 @@ pub fn node_laws<F: Picker>()
     // A node that stands for events stands for them with a claim behind that isn't accepted, and,
     // where it keeps a claim, with any other behind.
     ensures refused { (node : NodeParts F) (plan : List Cell) (events : List Event)
-        (claim : ClaimParts) → StandsFor F.picks node plan events →
+        (claim : ClaimParts) → NodeStands F.picks node plan events →
         (Accepts node.header claim → ⊥) →
-        StandsFor F.picks node plan (events ++ Claim claim ∷ []) }
+        NodeStands F.picks node plan (events ++ Claim claim ∷ []) }
     ensures later { (node : NodeParts F) (plan : List Cell) (events : List Event)
-        (claim first : ClaimParts) → StandsFor F.picks node plan events →
-        node.claim ≡ Some first → StandsFor F.picks node plan (events ++ Claim claim ∷ []) }
+        (claim first : ClaimParts) → NodeStands F.picks node plan events →
+        node.claim ≡ Some first → NodeStands F.picks node plan (events ++ Claim claim ∷ []) }
 {}

@@ -20,7 +20,7 @@ ghost use Rattle.light_node.specs.declared.events.Event.{Event as Happened};
 ghost use Rattle.light_node.specs.declared.events.Event.TheVariants.{Sample, Claim};
 ghost use Rattle.light_node.specs.Events.{IsFirstAccepted, IsState, IsLight, AreWaitedFor};
 ghost use Rattle.light_node.specs.Plans.{PicksInside, IsNextWanted};
-ghost use Rattle.light_node.specs.Nodes.{StandsFor, IsSame};
+ghost use Rattle.light_node.specs.Nodes.{NodeStands, IsSameNode};
 
 use crate::marks::{fill_unmarked, first_unmarked, has_mark, mark};
 use crate::wanted::want;
@@ -134,7 +134,7 @@ impl<F: Picker> LightNode<F> {
         ensures header { IfOk result (λ node. node.header ≡ header.now) }
         ensures limit { IfOk result (λ node. node.limit ≡ limit) }
         ensures picker { IfOk result (λ node. node.pick ≡ pick) }
-        ensures stands { IfOk result (λ node. StandsFor F.picks node [] []) }
+        ensures stands { IfOk result (λ node. NodeStands F.picks node [] []) }
     {
         let header = header.copy(alloc)?;
         let k = width(&header);
@@ -176,11 +176,11 @@ impl<F: Picker> LightNode<F> {
     pub fn more(&mut self, count: u32) -> Result<(), NoMemory>
         requires limit { self.old.planned + count ≤ self.old.limit }
         ensures stands { OnOk result ((plan : List Place) (events : List Happened) →
-            StandsFor F.picks self.old plan events →
+            NodeStands F.picks self.old plan events →
             (cells : List Place) × (length cells ≡ count)
-            × StandsFor F.picks self.new (plan ++ cells) events) }
+            × NodeStands F.picks self.new (plan ++ cells) events) }
         ensures planned { OnOk result (self.new.planned ≡ self.old.planned + count) }
-        ensures kept { IsSame self.old self.new }
+        ensures kept { IsSameNode self.old self.new }
         ensures unchanged { OnErr result (self.new ≡ self.old) }
     {
         want(&self.pick, self.planned, count, &mut self.wanted)?;
@@ -194,7 +194,7 @@ impl<F: Picker> LightNode<F> {
     /// no memory.
     pub fn next_wanted(&self) -> Option<Cell>
         ensures { (plan : List Place) (events : List Happened) →
-            StandsFor F.picks self.now plan events →
+            NodeStands F.picks self.now plan events →
             IsNextWanted self.now.header plan events result }
     {
         self.wanted.get_index(self.next).copied()
@@ -209,10 +209,10 @@ impl<F: Picker> LightNode<F> {
         ensures accepts { IsOk result ↔ IsProved self.old.header message.now }
         ensures first { refusal_in result ≡ message_refusal self.old.header message.now }
         ensures stands { (plan : List Place) (events : List Happened) →
-            StandsFor F.picks self.old plan events →
-            StandsFor F.picks self.new plan (events ++ Sample message.now ∷ []) }
+            NodeStands F.picks self.old plan events →
+            NodeStands F.picks self.new plan (events ++ Sample message.now ∷ []) }
         ensures planned { self.new.planned ≡ self.old.planned }
-        ensures kept { IsSame self.old self.new }
+        ensures kept { IsSameNode self.old self.new }
         ensures unchanged { OnErr result (self.new ≡ self.old) }
     {
         if let Err(why) = opens_by(&self.header, &mut self.trees, message) {
@@ -228,10 +228,10 @@ impl<F: Picker> LightNode<F> {
     /// nothing of it is hashed.
     fn sample(&mut self, message: &Message)
         ensures stands { (plan : List Place) (events : List Happened) →
-            StandsFor F.picks self.old plan events →
-            StandsFor F.picks self.new plan (events ++ Sample message.now ∷ []) }
+            NodeStands F.picks self.old plan events →
+            NodeStands F.picks self.new plan (events ++ Sample message.now ∷ []) }
         ensures planned { self.new.planned ≡ self.old.planned }
-        ensures kept { IsSame self.old self.new }
+        ensures kept { IsSameNode self.old self.new }
     {
         let k = width(&self.header);
         if has_mark(k, &self.shown, message.cell) {
@@ -243,10 +243,10 @@ impl<F: Picker> LightNode<F> {
     /// Keeps a claim, where it is accepted and none was before.
     fn accuse(&mut self, claim: FraudClaim)
         ensures stands { (plan : List Place) (events : List Happened) →
-            StandsFor F.picks self.old plan events →
-            StandsFor F.picks self.new plan (events ++ Claim claim ∷ []) }
+            NodeStands F.picks self.old plan events →
+            NodeStands F.picks self.new plan (events ++ Claim claim ∷ []) }
         ensures planned { self.new.planned ≡ self.old.planned }
-        ensures kept { IsSame self.old self.new }
+        ensures kept { IsSameNode self.old self.new }
     {
         if self.claim.is_some() {
             return;
@@ -262,13 +262,13 @@ impl<F: Picker> LightNode<F> {
     /// The first accepted claim is kept for good. It takes no memory.
     pub fn event(&mut self, event: Event) -> LightState
         ensures stands { (plan : List Place) (events : List Happened) →
-            StandsFor F.picks self.old plan events →
-            StandsFor F.picks self.new plan (events ++ event ∷ []) }
+            NodeStands F.picks self.old plan events →
+            NodeStands F.picks self.new plan (events ++ event ∷ []) }
         ensures state { (plan : List Place) (events : List Happened) →
-            StandsFor F.picks self.old plan events →
+            NodeStands F.picks self.old plan events →
             IsState self.old.header plan (events ++ event ∷ []) result }
         ensures planned { self.new.planned ≡ self.old.planned }
-        ensures kept { IsSame self.old self.new }
+        ensures kept { IsSameNode self.old self.new }
     {
         match event {
             Event::Sample(message) => self.sample(&message),
@@ -281,7 +281,7 @@ impl<F: Picker> LightNode<F> {
     /// accepted claim the data counts as available. It takes no memory.
     pub fn state(&self) -> LightState
         ensures { (plan : List Place) (events : List Happened) →
-            StandsFor F.picks self.now plan events →
+            NodeStands F.picks self.now plan events →
             IsState self.now.header plan events result }
     {
         if self.claim().is_some() {
@@ -296,7 +296,7 @@ impl<F: Picker> LightNode<F> {
     /// The first accepted claim; none where the node isn't rejecting. It takes no memory.
     pub fn claim(&self) -> Option<&FraudClaim>
         ensures { (plan : List Place) (events : List Happened) →
-            StandsFor F.picks self.now plan events →
+            NodeStands F.picks self.now plan events →
             IsFirstAccepted self.now.header events (option_copied result) }
     {
         match &self.claim {
@@ -311,7 +311,7 @@ impl<F: Picker> LightNode<F> {
         requires room { room.old.k ≡ self.now.header.k }
         ensures width { room.new.k ≡ room.old.k }
         ensures filled { (plan : List Place) (events : List Happened) →
-            StandsFor F.picks self.now plan events →
+            NodeStands F.picks self.now plan events →
             AreWaitedFor self.now.header plan events room.new }
     {
         fill_unmarked(width(&self.header), &self.shown, &self.wanted, room);
@@ -324,7 +324,7 @@ impl<F: Picker> LightNode<F> {
     pub fn finish(self, room: CellRoom) -> Light
         requires room { room.k ≡ self.header.k }
         ensures { (plan : List Place) (events : List Happened) →
-            StandsFor F.picks self plan events →
+            NodeStands F.picks self plan events →
             IsLight self.header plan events result }
     {
         let LightNode {

@@ -5,7 +5,7 @@ use Rattle.std.proofs.lemmas.List.{get_or-set_same, get_or-set_other, length-set
 use Rattle.namespace_id.specs.declared.digests.Digest.{Digest}
 use Rattle.nmt_tree.specs.Digests.{is_ordered_join, node_digest}
 use Rattle.nmt_proofs.specs.declared.partial.Node.{Node}
-use Rattle.nmt_proofs.specs.Partial.{no_node, digest_at, is_marked, AreHalves, AreJoined, AreUnmarked}
+use Rattle.nmt_proofs.specs.Partial.{no_node, digest_at, is_node_marked, AreHalves, AreJoined, AreUnmarked}
 
 -- a node that is not marked
 abbrev pub bare : Digest → Node
@@ -55,10 +55,10 @@ digest_at-other nodes i digest h j apart =
 
 -- what is marked beside a bare node was marked
 marked_beside : (nodes : List Node) (i j : ℕ) (digest : Digest) → i < length nodes
-    → is_marked (set nodes i (bare digest)) j ≡ true → (j ≢ i) × (is_marked nodes j ≡ true)
+    → is_node_marked (set nodes i (bare digest)) j ≡ true → (j ≢ i) × (is_node_marked nodes j ≡ true)
 marked_beside nodes i j digest h is =
     let apart : j ≢ i = λ (e : j ≡ i).
-    true≢false (sym is ∙ ap (is_marked (set nodes i (bare digest))) e
+    true≢false (sym is ∙ ap (is_node_marked (set nodes i (bare digest))) e
     ∙ ap (λ (n : Node). n.is_joined) (get_or-set_same nodes i (bare digest) no_node h)) in
     (apart, ap (λ (n : Node). n.is_joined) (sym (get_or-set_other nodes i j (bare digest) no_node apart)) ∙ is)
 
@@ -80,7 +80,7 @@ joined_still nodes i digest h joined j is =
     }
 
 -- nodes that aren't marked, one as often as one likes
-unmarked_copies : (n i : ℕ) (digest : Digest) → is_marked (replicate n (bare digest)) i ≡ false
+unmarked_copies : (n i : ℕ) (digest : Digest) → is_node_marked (replicate n (bare digest)) i ≡ false
 unmarked_copies n i digest = elim (cases_lt i n) [
   | inl below ↦ ap (λ (x : Node). x.is_joined) (get_or-replicate n i (bare digest) no_node below)
   | inr past ↦ ap (λ (x : Node). x.is_joined) (get_or_past (replicate n (bare digest)) i no_node (omega (arith, length-replicate n (bare digest))))

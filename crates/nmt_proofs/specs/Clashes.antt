@@ -109,10 +109,10 @@ pub record IsOpening (depth : ℕ) (shown : List Shown) (nodes : List Digest) : 
   pub node_bytes : AreDigests nodes
 
 -- single places, ascending, from `low` on and below `high`
-abbrev pub ArePlaces : ℕ → ℕ → List Shown → Type 0
-ArePlaces low high [] = Unit {0}
-ArePlaces low high (s ∷ shown) =
-    (s.size ≡ 1) × (low ≤ s.from) × (s.from < high) × ArePlaces (s.from + 1) high shown
+abbrev pub ArePlacesBetween : ℕ → ℕ → List Shown → Type 0
+ArePlacesBetween low high [] = Unit {0}
+ArePlacesBetween low high (s ∷ shown) =
+    (s.size ≡ 1) × (low ≤ s.from) × (s.from < high) × ArePlacesBetween (s.from + 1) high shown
 
 -- what is shown at each place is the list's leaf there, or that leaf's digest
 abbrev pub AreListed : List Namespace → List Share → List Shown → Type 0

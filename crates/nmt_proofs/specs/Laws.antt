@@ -9,7 +9,7 @@ use Rattle.nmt_tree.specs.Roots.{root, is_ordered}
 use Rattle.nmt_tree.specs.Levels.{leaf_digests}
 use Rattle.nmt_proofs.specs.Parts.{digest_of}
 use Rattle.nmt_proofs.specs.Openings.{Shown, one_leaf, leaves_at, intervals_from, opened, outside, leaves_from, one_digest}
-use Rattle.nmt_proofs.specs.Clashes.{ClashOr, Agree, whole, AreLeaves, IsOpening, ArePlaces, AreListed, AreLeavesOf}
+use Rattle.nmt_proofs.specs.Clashes.{ClashOr, Agree, whole, AreLeaves, IsOpening, ArePlacesBetween, AreListed, AreLeavesOf}
 use Rattle.nmt_proofs.specs.Places.{AreAscending, AreAligned}
 use Rattle.nmt_proofs.specs.Making.{spans, interval_digests}
 use Rattle.namespace_id.specs.Names.{IsNamespace, is_parity}
@@ -27,7 +27,7 @@ OpeningAgrees = (depth : ℕ) (shown : List Shown) (nodes : List Digest) (names 
 -- one that shows single places shows the list's leaves, and its nodes are the digests over those that are left out
 abbrev pub PlacesAreListed : Type 0
 PlacesAreListed = (depth : ℕ) (shown : List Shown) (nodes : List Digest) (names : List Namespace)
-    (shares : List Share) → IsOpening depth shown nodes → ArePlaces 0 (2 ^ depth) shown
+    (shares : List Share) → IsOpening depth shown nodes → ArePlacesBetween 0 (2 ^ depth) shown
     → AreLeaves depth names shares → digest_of (opened depth 0 shown nodes) ≡ root depth names shares
     → ClashOr (opened depth 0 shown nodes) (whole depth names shares)
     (AreListed names shares shown × (nodes ≡ spans (leaf_digests names shares) (outside depth 0 shown)))

@@ -22,24 +22,24 @@ abbrev pub branch_tree : ℕ → Branch → Part
 branch_tree depth b = opened depth 0 (one_leaf b.pos b.name b.share) b.nodes
 
 -- what branches show, without their nodes
-abbrev pub shown_of : Branch → Shown
-shown_of b = record { from = b.pos; size = 1; part = leaf b.name b.share }
+abbrev pub branch_shown : Branch → Shown
+branch_shown b = record { from = b.pos; size = 1; part = leaf b.name b.share }
 
 -- their places
-abbrev pub places_of : List Branch → List ℕ
-places_of branches = map (λ b. b.pos) branches
+abbrev pub places_of_branches : List Branch → List ℕ
+places_of_branches branches = map (λ b. b.pos) branches
 
 -- their names
-abbrev pub names_of : List Branch → List Namespace
-names_of branches = map (λ b. b.name) branches
+abbrev pub names_of_branches : List Branch → List Namespace
+names_of_branches branches = map (λ b. b.name) branches
 
 -- their shares
-abbrev pub shares_of : List Branch → List Share
-shares_of branches = map (λ b. b.share) branches
+abbrev pub shares_of_branches : List Branch → List Share
+shares_of_branches branches = map (λ b. b.share) branches
 
 -- the leaves of branches, at their places
 abbrev pub leaves_of : List Branch → List Shown
-leaves_of branches = map shown_of branches
+leaves_of branches = map branch_shown branches
 
 -- the nodes that open the leaves of branches of an interval, which lies behind `turns` right turns: each interval
 -- in it that holds none of them takes its node from the first branch of the interval twice as large; `beside` is
@@ -65,8 +65,8 @@ HoldsAlong R [] = Unit {0}
 HoldsAlong R (x ∷ xs) = HoldsFrom R x xs
 
 -- two branches name no collision
-abbrev pub AreAlike : ℕ → Branch → Branch → Type 0
-AreAlike depth x y = clash_at (branch_tree depth x) (branch_tree depth y) ≡ None
+abbrev pub BranchesAgree : ℕ → Branch → Branch → Type 0
+BranchesAgree depth x y = clash_at (branch_tree depth x) (branch_tree depth y) ≡ None
 
 -- a branch opens its leaf under the root
 pub record IsBranch (depth : ℕ) (root : Digest) (b : Branch) : Type 0 where
@@ -75,6 +75,6 @@ pub record IsBranch (depth : ℕ) (root : Digest) (b : Branch) : Type 0 where
 
 -- branches at ascending places, each under the root, of which no two neighbors name a collision
 pub record AreBranches (depth : ℕ) (root : Digest) (branches : List Branch) : Type 0 where
-  pub places : AreAscending 0 (2 ^ depth) (places_of branches)
+  pub places : AreAscending 0 (2 ^ depth) (places_of_branches branches)
   pub each : AllByRecursion (IsBranch depth root) branches
-  pub alike : HoldsAlong (AreAlike depth) branches
+  pub alike : HoldsAlong (BranchesAgree depth) branches

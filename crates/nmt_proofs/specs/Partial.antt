@@ -17,8 +17,8 @@ abbrev pub digest_at : List Node → ℕ → Digest
 digest_at nodes i = (get_or nodes i no_node).digest
 
 -- whether a node is marked as one of which both halves are kept
-abbrev pub is_marked : List Node → ℕ → Bool
-is_marked nodes i = (get_or nodes i no_node).is_joined
+abbrev pub is_node_marked : List Node → ℕ → Bool
+is_node_marked nodes i = (get_or nodes i no_node).is_joined
 
 -- the halves that are kept of a node join in order, to this digest
 pub record AreHalves (nodes : List Node) (i : ℕ) (digest : Digest) : Type 0 where
@@ -27,11 +27,11 @@ pub record AreHalves (nodes : List Node) (i : ℕ) (digest : Digest) : Type 0 wh
 
 -- each node that is marked has the digest of its halves, which join in order
 abbrev pub AreJoined : List Node → Type 0
-AreJoined nodes = (i : ℕ) → is_marked nodes i ≡ true → AreHalves nodes i (digest_at nodes i)
+AreJoined nodes = (i : ℕ) → is_node_marked nodes i ≡ true → AreHalves nodes i (digest_at nodes i)
 
 -- nodes up to a number have the digests that they had
-abbrev pub AreKept : ℕ → List Node → List Node → Type 0
-AreKept i before after = (j : ℕ) → j ≤ i → digest_at after j ≡ digest_at before j
+abbrev pub KeepDigests : ℕ → List Node → List Node → Type 0
+KeepDigests i before after = (j : ℕ) → j ≤ i → digest_at after j ≡ digest_at before j
 
 -- a partial tree as contracts see it: how many leaves the tree has, and its root
 pub record RootedTree : Type 0 where
@@ -44,7 +44,7 @@ rooted_tree count nodes = record { count = count; root = digest_at nodes 1 }
 
 -- no node is marked
 abbrev pub AreUnmarked : List Node → Type 0
-AreUnmarked nodes = (i : ℕ) → is_marked nodes i ≡ false
+AreUnmarked nodes = (i : ℕ) → is_node_marked nodes i ≡ false
 
 -- the nodes of a partial tree, all of them; each that is marked is joined of its halves
 pub record IsPartial (count : ℕ) (nodes : List Node) : Type 0 where

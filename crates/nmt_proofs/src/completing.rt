@@ -6,7 +6,7 @@ ghost use Rattle.namespace_id.specs.declared.digests.Digest.{Digest};
 ghost use Rattle.namespace_id.specs.Sizes.{most_depth, most_leaves};
 ghost use Rattle.nmt_proofs.specs.Openings.{outside};
 ghost use Rattle.nmt_proofs.specs.Complete.{excludes, first_break};
-ghost use Rattle.nmt_proofs.specs.Pieces.{shown};
+ghost use Rattle.nmt_proofs.specs.Pieces.{shown_pieces};
 ghost use Rattle.nmt_proofs.specs.Laws.{RangeLeavesNoPlace, AbsenceLeavesNoPlace, RangeStandsBetween, AbsenceStandsBetween, RangeIsWhole, AbsenceIsTrue};
 
 use crate::joining::{Piece, count_outside, halves, is_piece};
@@ -36,10 +36,10 @@ pub(crate) fn first_break(
 ) -> Option<u64>
     requires depth { depth ≤ most_depth }
     requires interval { start + 2 ^ depth ≤ most_leaves }
-    requires count { length nodes.now ≡ length (outside depth start (shown pieces.now)) }
+    requires count { length nodes.now ≡ length (outside depth start (shown_pieces pieces.now)) }
     requires numbers { number + length nodes.now < 2 ^ 64 }
     ensures { result ≡
-        first_break name.now from number (outside depth start (shown pieces.now)) nodes.now }
+        first_break name.now from number (outside depth start (shown_pieces pieces.now)) nodes.now }
 {
     if pieces.is_empty() {
         return if excludes(name, start < from, &nodes[0]) {

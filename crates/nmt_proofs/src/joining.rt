@@ -11,7 +11,7 @@ ghost use Rattle.namespace_id.specs.Sizes.{most_depth, most_leaves};
 ghost use Rattle.nmt_tree.specs.Digests.{is_ordered_join, node_digest};
 ghost use Rattle.nmt_proofs.specs.Parts.{join, ordered_digest};
 ghost use Rattle.nmt_proofs.specs.Openings.{begun, is_interval, is_halved, outside, opened};
-ghost use Rattle.nmt_proofs.specs.Pieces.{shown, shown_of};
+ghost use Rattle.nmt_proofs.specs.Pieces.{shown_pieces, shown_of};
 
 use namespace_id::{BLANK_DIGEST, Digest, MOST_LEAVES};
 use nmt_tree::{join, leaf_count};
@@ -35,7 +35,7 @@ pub(crate) fn blank_pieces() -> [Piece; MOST_LEAVES] {
 
 /// How many pieces begin before a place.
 pub(crate) fn count_begun(pieces: &[Piece], middle: u16) -> usize
-    ensures count { result ≡ begun middle (shown pieces.now) }
+    ensures count { result ≡ begun middle (shown_pieces pieces.now) }
     ensures bound { result ≤ length pieces.now }
 {
     for (i, piece) in pieces.iter().enumerate() {
@@ -60,21 +60,21 @@ pub(crate) fn is_piece(depth: u8, piece: &Piece) -> bool
 pub(crate) fn halves(depth: u8, start: u16, pieces: &[Piece]) -> (u16, &[Piece], &[Piece])
     requires depth { depth ≤ most_depth }
     requires interval { start + 2 ^ depth ≤ most_leaves }
-    requires halved { is_halved depth (shown pieces.now) ≡ true }
+    requires halved { is_halved depth (shown_pieces pieces.now) ≡ true }
     ensures depth { 0 < depth }
     ensures size { 2 ^ (depth - 1) + 2 ^ (depth - 1) ≡ 2 ^ depth }
     ensures middle { result.0 ≡ start + 2 ^ (depth - 1) }
-    ensures outside { outside depth start (shown pieces.now) ≡
-        outside (depth - 1) start (shown result.1.now)
-        ++ outside (depth - 1) result.0 (shown result.2.now) }
+    ensures outside { outside depth start (shown_pieces pieces.now) ≡
+        outside (depth - 1) start (shown_pieces result.1.now)
+        ++ outside (depth - 1) result.0 (shown_pieces result.2.now) }
 
     // The left half takes the first nodes, as many as it leaves intervals out.
     ensures opened { (nodes left right : List Digest) (count : ℕ) →
-        count ≡ length (outside (depth - 1) start (shown result.1.now)) →
+        count ≡ length (outside (depth - 1) start (shown_pieces result.1.now)) →
         left ≡ take count nodes → right ≡ drop count nodes →
-        opened depth start (shown pieces.now) nodes ≡
-        join (opened (depth - 1) start (shown result.1.now) left)
-        (opened (depth - 1) result.0 (shown result.2.now) right) }
+        opened depth start (shown_pieces pieces.now) nodes ≡
+        join (opened (depth - 1) start (shown_pieces result.1.now) left)
+        (opened (depth - 1) result.0 (shown_pieces result.2.now) right) }
 {
     let middle = start + leaf_count(depth - 1);
     let (left, right) = pieces.split_at(count_begun(pieces, middle));
@@ -85,7 +85,7 @@ pub(crate) fn halves(depth: u8, start: u16, pieces: &[Piece]) -> (u16, &[Piece],
 pub(crate) fn count_outside(depth: u8, start: u16, pieces: &[Piece]) -> usize
     requires depth { depth ≤ most_depth }
     requires interval { start + 2 ^ depth ≤ most_leaves }
-    ensures count { result ≡ length (outside depth start (shown pieces.now)) }
+    ensures count { result ≡ length (outside depth start (shown_pieces pieces.now)) }
     ensures bound { result ≤ 2 ^ depth }
 {
     if pieces.is_empty() {
@@ -109,8 +109,8 @@ pub(crate) fn ordered_node(left: &Digest, right: &Digest) -> Option<Digest>
 pub(crate) fn joined(depth: u8, start: u16, pieces: &[Piece], nodes: &[Digest]) -> Option<Digest>
     requires depth { depth ≤ most_depth }
     requires interval { start + 2 ^ depth ≤ most_leaves }
-    requires count { length nodes.now ≡ length (outside depth start (shown pieces.now)) }
-    ensures { result ≡ ordered_digest (opened depth start (shown pieces.now) nodes.now) }
+    requires count { length nodes.now ≡ length (outside depth start (shown_pieces pieces.now)) }
+    ensures { result ≡ ordered_digest (opened depth start (shown_pieces pieces.now) nodes.now) }
 {
     if pieces.is_empty() {
         return Some(nodes[0]);

@@ -12,10 +12,10 @@ ghost use Rattle.nmt_tree.specs.Levels.{leaf_digests, span, HasOrderedJoins};
 ghost use Rattle.nmt_proofs.specs.Parts.{is_in_order};
 ghost use Rattle.nmt_proofs.specs.Openings.{Shown, outside, Opens, digests_from, leaves_at, intervals_from};
 ghost use Rattle.nmt_proofs.specs.Places.{AreAligned, AreAscending};
-ghost use Rattle.nmt_proofs.specs.Merging.{Branch, AreBranches, merged_nodes, places_of, names_of, shares_of};
+ghost use Rattle.nmt_proofs.specs.Merging.{Branch, AreBranches, merged_nodes, places_of_branches, names_of_branches, shares_of_branches};
 ghost use Rattle.nmt_proofs.specs.Clashes.{whole, AreLeaves};
 ghost use Rattle.nmt_proofs.specs.Making.{spans, AreAtLeaves, leaf_nodes, range_nodes, OpensDigest, OpensLeaf, OpensLeaves, CompletesRange, CompletesAbsence, subtrees, subtree_nodes, OpensSubtrees};
-ghost use Rattle.nmt_proofs.specs.Pieces.{shown};
+ghost use Rattle.nmt_proofs.specs.Pieces.{shown_pieces};
 
 use crate::joining::{Piece, blank_pieces, count_outside, halves, is_piece};
 use crate::{Absent, Nodes, Path};
@@ -29,9 +29,9 @@ fn put_nodes(tree: &Tree, depth: u8, start: u16, pieces: &[Piece], nodes: &mut [
     requires depth { depth ≤ most_depth }
     requires aligned { start % 2 ^ depth ≡ 0 }
     requires interval { start + 2 ^ depth ≤ tree.now.count }
-    requires count { length nodes.old ≡ length (outside depth start (shown pieces.now)) }
+    requires count { length nodes.old ≡ length (outside depth start (shown_pieces pieces.now)) }
     ensures { ForSome tree.now.leaves (λ leaves.
-        nodes.new ≡ spans leaves (outside depth start (shown pieces.now))) }
+        nodes.new ≡ spans leaves (outside depth start (shown_pieces pieces.now))) }
 {
     if pieces.is_empty() {
         nodes[0] = tree.full_digest(start, leaf_count(depth));
@@ -111,9 +111,9 @@ fn nodes_beside(tree: &Tree, depth: u8, pieces: &[Piece]) -> Nodes
     requires filled { IsSome tree.now.leaves }
     requires depth { depth ≤ most_depth }
     requires count { tree.now.count ≡ 2 ^ depth }
-    requires few { length (outside depth 0 (shown pieces.now)) ≤ 2 * most_depth }
+    requires few { length (outside depth 0 (shown_pieces pieces.now)) ≤ 2 * most_depth }
     ensures { ForSome tree.now.leaves (λ leaves.
-        result ≡ spans leaves (outside depth 0 (shown pieces.now))) }
+        result ≡ spans leaves (outside depth 0 (shown_pieces pieces.now))) }
 {
     let count = count_outside(depth, 0, pieces);
     let mut nodes = blank_nodes();
@@ -125,7 +125,7 @@ fn nodes_beside(tree: &Tree, depth: u8, pieces: &[Piece]) -> Nodes
 /// intervals beside them don't depend on it.
 fn put_places(from: u16, digest: Digest, pieces: &mut [Piece])
     requires { from + length pieces.old ≤ most_leaves }
-    ensures { shown pieces.new ≡ digests_from from (replicate (length pieces.old) digest) }
+    ensures { shown_pieces pieces.new ≡ digests_from from (replicate (length pieces.old) digest) }
 {
     for i in 0..pieces.len() {
         pieces[i] = Piece {
@@ -203,7 +203,7 @@ pub fn make_absent(tree: &Tree, pos: u16) -> Absent
 fn put_sizes(from: u16, sizes: &[u16], digest: Digest, pieces: &mut [Piece])
     requires places { AreAligned from most_leaves sizes.now }
     requires room { length sizes.now ≡ length pieces.old }
-    ensures { shown pieces.new ≡
+    ensures { shown_pieces pieces.new ≡
         intervals_from from sizes.now (replicate (length sizes.now) digest) }
 {
     let mut at = from;
@@ -249,9 +249,9 @@ pub fn make_nodes(tree: &Tree, from: u16, sizes: &[u16]) -> Nodes
 /// single leaves become one.
 pub fn making_laws()
     // Where every join over leaves is ordered, these digests open what is shown at single places.
-    ensures opens { (depth : ℕ) (leaves : List Digest) (shown : List Shown) →
-        AreAtLeaves leaves 0 (2 ^ depth) shown → HasOrderedJoins leaves 0 depth →
-        Opens depth shown (spans leaves (outside depth 0 shown)) (span leaves 0 depth) }
+    ensures opens { (depth : ℕ) (leaves : List Digest) (shown_pieces : List Shown) →
+        AreAtLeaves leaves 0 (2 ^ depth) shown_pieces → HasOrderedJoins leaves 0 depth →
+        Opens depth shown_pieces (spans leaves (outside depth 0 shown_pieces)) (span leaves 0 depth) }
 
     // A list's joins are ordered exactly where those of its part are.
     ensures in_order { (depth : ℕ) (names : List Namespace) (shares : List Share) →
@@ -274,6 +274,6 @@ pub fn making_laws()
     // together to one opening of all their leaves.
     ensures merged { (depth : ℕ) (root beside : Digest) (branches : List Branch) →
         0 < length branches → AreBranches depth root branches →
-        Opens depth (leaves_at (places_of branches) (names_of branches) (shares_of branches))
+        Opens depth (leaves_at (places_of_branches branches) (names_of_branches branches) (shares_of_branches branches))
         (merged_nodes depth 0 0 beside branches) root }
 {}

@@ -9,7 +9,7 @@ ghost use Rattle.nmt_proofs.specs.Openings.{outside, has_count, has_order, has_r
 ghost use Rattle.nmt_proofs.specs.Places.{AreAscending, AreAligned};
 ghost use Rattle.nmt_proofs.specs.Complete.{first_break, range_break, absence_break};
 ghost use Rattle.nmt_proofs.specs.Causes.{HasCause, OpensRange, OpensAbsence, range_refusal, absence_refusal, set_refusal};
-ghost use Rattle.nmt_proofs.specs.Pieces.{shown};
+ghost use Rattle.nmt_proofs.specs.Pieces.{shown_pieces};
 
 use crate::completing::{excludes, first_break};
 use crate::joining::{Piece, blank_pieces, count_outside, joined};
@@ -38,9 +38,9 @@ pub enum OpenRefusal {
 /// Whether the nodes open the pieces under the root.
 fn open(n: u16, pieces: &[Piece], nodes: &[Digest], root: &Digest) -> Result<(), OpenRefusal>
     requires { IsTrue (is_leaf_count n) }
-    ensures { HasCause result (has_count (halvings n) (shown pieces.now) nodes.now)
-        (has_order (halvings n) (shown pieces.now) nodes.now)
-        (has_root (halvings n) (shown pieces.now) nodes.now root.now) None }
+    ensures { HasCause result (has_count (halvings n) (shown_pieces pieces.now) nodes.now)
+        (has_order (halvings n) (shown_pieces pieces.now) nodes.now)
+        (has_root (halvings n) (shown_pieces pieces.now) nodes.now root.now) None }
 {
     let depth = halvings(n as usize);
     if nodes.len() != count_outside(depth, 0, pieces) {
@@ -67,10 +67,10 @@ fn open_complete(
     from: u16,
 ) -> Result<(), OpenRefusal>
     requires { IsTrue (is_leaf_count n) }
-    ensures { HasCause result (has_count (halvings n) (shown pieces.now) nodes.now)
-        (has_order (halvings n) (shown pieces.now) nodes.now)
-        (has_root (halvings n) (shown pieces.now) nodes.now root.now)
-        (first_break name.now from 0 (outside (halvings n) 0 (shown pieces.now)) nodes.now) }
+    ensures { HasCause result (has_count (halvings n) (shown_pieces pieces.now) nodes.now)
+        (has_order (halvings n) (shown_pieces pieces.now) nodes.now)
+        (has_root (halvings n) (shown_pieces pieces.now) nodes.now root.now)
+        (first_break name.now from 0 (outside (halvings n) 0 (shown_pieces pieces.now)) nodes.now) }
 {
     open(n, pieces, nodes, root)?;
     let depth = halvings(n as usize);
@@ -84,7 +84,7 @@ fn open_complete(
 fn put_leaves(from: u16, name: &Namespace, shares: &[Share], pieces: &mut [Piece])
     requires places { from + length shares.now ≤ most_leaves }
     requires room { length shares.now ≤ length pieces.old }
-    ensures { shown (take (length shares.now) pieces.new) ≡
+    ensures { shown_pieces (take (length shares.now) pieces.new) ≡
         shadow (leaves_from from name.now shares.now) }
 {
     for i in 0..shares.len() {
@@ -101,7 +101,7 @@ fn put_set(places: &[u16], names: &[Namespace], shares: &[Share], pieces: &mut [
     requires names { length names.now ≡ length places.now }
     requires shares { length shares.now ≡ length places.now }
     requires room { length places.now ≤ length pieces.old }
-    ensures { shown (take (length places.now) pieces.new) ≡
+    ensures { shown_pieces (take (length places.now) pieces.new) ≡
         shadow (leaves_at places.now names.now shares.now) }
 {
     for i in 0..places.len() {
@@ -118,7 +118,7 @@ fn put_intervals(from: u16, sizes: &[u16], digests: &[Digest], pieces: &mut [Pie
     requires digests { length digests.now ≡ length sizes.now }
     requires places { AreAligned from most_leaves sizes.now }
     requires room { length sizes.now ≤ length pieces.old }
-    ensures { shown (take (length sizes.now) pieces.new) ≡
+    ensures { shown_pieces (take (length sizes.now) pieces.new) ≡
         intervals_from from sizes.now digests.now }
 {
     let mut at = from;

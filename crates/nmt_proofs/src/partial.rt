@@ -16,7 +16,7 @@ ghost use Rattle.nmt_tree.specs.Roots.{is_leaf_count, halvings};
 ghost use Rattle.nmt_proofs.specs.Parts.{ordered_digest};
 ghost use Rattle.nmt_proofs.specs.Openings.{opened, one_digest, one_leaf, has_count, has_order, has_root, Opens};
 ghost use Rattle.nmt_proofs.specs.Causes.{HasCause};
-ghost use Rattle.nmt_proofs.specs.Partial.{digest_at, AreHalves, AreJoined, AreKept, IsPartial, KeepsPartial};
+ghost use Rattle.nmt_proofs.specs.Partial.{digest_at, AreHalves, AreJoined, KeepDigests, IsPartial, KeepsPartial};
 
 use crate::joining::{Piece, ordered_node};
 use crate::opening::OpenRefusal;
@@ -148,7 +148,7 @@ fn fold_anew(
         (one_digest leaf.now.from leaf.now.digest) path.now) }
     ensures length { length nodes.new ≡ length nodes.old }
     ensures joined { AreJoined nodes.new }
-    ensures kept { AreKept i nodes.old nodes.new }
+    ensures kept { KeepDigests i nodes.old nodes.new }
     ensures halves { 0 < depth → IfSome result (λ digest. AreHalves nodes.new i digest) }
 {
     if depth == 0 {
@@ -192,7 +192,7 @@ fn learn(
         (one_digest leaf.now.from leaf.now.digest) path.now) }
     ensures length { length nodes.new ≡ length nodes.old }
     ensures joined { AreJoined nodes.new }
-    ensures kept { AreKept i nodes.old nodes.new }
+    ensures kept { KeepDigests i nodes.old nodes.new }
 {
     let digest = fold_anew(nodes, ahead, i, depth, start, leaf, path)?;
     if digest == nodes[i].digest {
@@ -224,7 +224,7 @@ fn fold(
         (one_digest leaf.now.from leaf.now.digest) path.now) }
     ensures length { length nodes.new ≡ length nodes.old }
     ensures joined { AreJoined nodes.new }
-    ensures kept { AreKept i nodes.old nodes.new }
+    ensures kept { KeepDigests i nodes.old nodes.new }
 {
     if depth == 0 {
         return Some(leaf.digest);

@@ -7,10 +7,10 @@ use Rattle.nmt_proofs.specs.declared.opening.OpenRefusal.{OpenRefusal}
 use Rattle.axis_roots.specs.Claims.{ClaimParts, Accepts}
 use Rattle.befp_verify.specs.declared.verifying.FraudRefusal.{FraudRefusal}
 use Rattle.befp_verify.specs.declared.verifying.FraudRefusal.TheVariants.{Shape, Cell, Set, AxisMatches}
-use Rattle.befp_verify.specs.Refusals.{HasCause}
+use Rattle.befp_verify.specs.Refusals.{HasFraudCause}
 
 -- two causes of one refusal are one
-one_refusal : (header : Roots) (claim : ClaimParts) (d e : FraudRefusal) → HasCause header claim (Some d) → HasCause header claim (Some e) → d ≡ e
+one_refusal : (header : Roots) (claim : ClaimParts) (d e : FraudRefusal) → HasFraudCause header claim (Some d) → HasFraudCause header claim (Some e) → d ≡ e
 one_refusal header claim Shape Shape p q = refl
 one_refusal header claim Shape (Cell j y) p q = absurd (false≢true (sym p ∙ q.0))
 one_refusal header claim Shape (Set y) p q = absurd (false≢true (sym p ∙ q.0))
@@ -32,7 +32,7 @@ one_refusal header claim AxisMatches AxisMatches p q = refl
 
 -- what refuses a claim exactly where it isn't accepted, and for a cause that is there
 pub one_judgement : (header : Roots) (claim : ClaimParts) (r s : Option FraudRefusal) → ((r ≡ None) ↔ Accepts header claim) → ((s ≡ None) ↔ Accepts header claim)
-    → HasCause header claim r → HasCause header claim s → r ≡ s
+    → HasFraudCause header claim r → HasFraudCause header claim s → r ≡ s
 one_judgement header claim None s R S p q = sym (S.1 (R.0 refl))
 one_judgement header claim (Some d) None R S p q = R.1 (S.0 refl)
 one_judgement header claim (Some d) (Some e) R S p q = ap (λ (why : FraudRefusal). Some why) (one_refusal header claim d e p q)

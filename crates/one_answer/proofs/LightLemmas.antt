@@ -8,9 +8,9 @@ use Rattle.data_header.specs.Headers.{Roots}
 use Rattle.axis_roots.specs.Claims.{ClaimParts}
 use Rattle.light_node.specs.declared.events.Event.{Event}
 use Rattle.light_node.specs.declared.events.Event.TheVariants.{Claim}
-use Rattle.light_node.specs.Events.{IsShown, NoneAccepted, IsFirstAccepted, AllShown}
-use Rattle.light_node.specs.Plans.{IsPlan, IsNextWanted}
-use Rattle.light_node.specs.Nodes.{NodeParts, StandsFor, distinct}
+use Rattle.light_node.specs.Events.{IsShownCell, NoneAccepted, IsFirstAccepted, AllShown}
+use Rattle.light_node.specs.Plans.{IsPlanOf, IsNextWanted}
+use Rattle.light_node.specs.Nodes.{NodeParts, NodeStands, distinct}
 use Rattle.one_answer.specs.Pickers.{PicksOne}
 
 -- where there is a first accepted claim, not none is accepted
@@ -32,14 +32,14 @@ one_first header events (Some claim) (Some other) once a b = let is = once claim
 -- of one list the first element that isn't shown is one
 first_hidden : (header : Roots) (events : List Event) (before before' after after' : List Cell) (cell cell' : Cell)
     → before ++ cell ∷ after ≡ before' ++ cell' ∷ after' → AllShown header before events → AllShown header before' events
-    → (IsShown header events cell → ⊥) → (IsShown header events cell' → ⊥) → cell ≡ cell'
+    → (IsShownCell header events cell → ⊥) → (IsShownCell header events cell' → ⊥) → cell ≡ cell'
 first_hidden header events [] [] after after' cell cell' is all all' hidden hidden' = cc
 first_hidden header events [] (c ∷ before') after after' cell cell' is all all' hidden hidden' =
     let same : c ≡ cell = cc in
-    absurd (hidden (subst (IsShown header events) same (all' c (contains_head c before'))))
+    absurd (hidden (subst (IsShownCell header events) same (all' c (contains_head c before'))))
 first_hidden header events (c ∷ before) [] after after' cell cell' is all all' hidden hidden' =
     let same : c ≡ cell' = cc in
-    absurd (hidden' (subst (IsShown header events) same (all c (contains_head c before))))
+    absurd (hidden' (subst (IsShownCell header events) same (all c (contains_head c before))))
 first_hidden header events (c ∷ before) (c' ∷ before') after after' cell cell' is all all' hidden hidden' =
     let rest : before ++ cell ∷ after ≡ before' ++ cell' ∷ after' = cc in
     first_hidden header events before before' after after' cell cell' rest
@@ -77,12 +77,12 @@ one_plan picks one (x ∷ xs) (y ∷ ys) long p q =
 -- two nodes with one plan and as many cells more, of such a picker, want the same cells
 pub one_wanted : {F : Type 0} (picks : F → ℕ → Cell → Type 0) (pick : F) → PicksOne picks pick → (plan cells others : List Cell)
     (events : List Event) (one other : NodeParts F) → length cells ≡ length others → one.pick ≡ pick → other.pick ≡ pick
-    → StandsFor picks one (plan ++ cells) events → StandsFor picks other (plan ++ others) events → one.wanted ≡ other.wanted
+    → NodeStands picks one (plan ++ cells) events → NodeStands picks other (plan ++ others) events → one.wanted ≡ other.wanted
 one_wanted picks pick once plan cells others events one other long is is' stands stood =
     let count : length (plan ++ cells) ≡ length (plan ++ others) = length-append plan cells ∙ ap (λ (n : ℕ). length plan + n) long ∙ sym (length-append plan others) in
     let same : plan ++ cells ≡ plan ++ others =
     one_plan (picks pick) once (plan ++ cells) (plan ++ others) count
-    (subst (λ f. IsPlan picks f (plan ++ cells)) is stands.picked) (subst (λ f. IsPlan picks f (plan ++ others)) is' stood.picked) in
+    (subst (λ f. IsPlanOf picks f (plan ++ cells)) is stands.picked) (subst (λ f. IsPlanOf picks f (plan ++ others)) is' stood.picked) in
     stands.wanted ∙ ap distinct same ∙ sym stood.wanted
 
 -- what two calls say of an Ok holds where both are Ok

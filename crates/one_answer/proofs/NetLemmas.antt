@@ -4,14 +4,14 @@ use Rattle.namespace_id.specs.Cells.{CellList}
 use Rattle.data_header.specs.Headers.{Roots}
 use Rattle.da_net.specs.declared.items.Item.{Item}
 use Rattle.da_net.specs.declared.items.NodeState.{NodeState}
-use Rattle.da_net.specs.Networks.{messages_of, events_of, Kind, full, light, Standing, settled, clashing, waiting, available, rejecting, Stands, handed}
+use Rattle.da_net.specs.Networks.{messages_of, item_events, NodeKind, full, light, Standing, settled, clashing, waiting, available, rejecting, NodeMayStand, handed}
 use Rattle.da_net.specs.Promises.{IsAlarmed}
-use Rattle.da_net.specs.Nets.{NetParts, alarm_at, Fits, HasState, AreMissed, state_of}
+use Rattle.da_net.specs.Nets.{NetParts, alarm_at, FitsAlarm, HasState, AreMissed, standing_state}
 use Rattle.one_answer.proofs.CellLemmas.{same_left, same_waited}
 
 -- a node that isn't alarmed stands in one way
-pub one_calm : (header : Roots) (kind : Kind) (items : List Item) (one other : Standing) → Stands header kind items one
-    → Stands header kind items other → (IsAlarmed one → ⊥) → (IsAlarmed other → ⊥) → one ≡ other
+pub one_calm : (header : Roots) (kind : NodeKind) (items : List Item) (one other : Standing) → NodeMayStand header kind items one
+    → NodeMayStand header kind items other → (IsAlarmed one → ⊥) → (IsAlarmed other → ⊥) → one ≡ other
 one_calm header full items settled settled a b calm still = refl
 one_calm header full items settled (clashing left right) a b calm still = absurd (still (inr tt))
 one_calm header full items settled waiting a b calm still = absurd b
@@ -36,8 +36,8 @@ one_calm header (light plan) items available (rejecting claim) a b calm still = 
 one_calm header (light plan) items (rejecting claim) other a b calm still = absurd (calm (inl tt))
 
 -- two standings that fit one alarm are one
-one_fitting : (header : Roots) (kind : Kind) (items : List Item) (alarm : Option Standing) (one other : Standing)
-    → Stands header kind items one → Stands header kind items other → Fits alarm one → Fits alarm other → one ≡ other
+one_fitting : (header : Roots) (kind : NodeKind) (items : List Item) (alarm : Option Standing) (one other : Standing)
+    → NodeMayStand header kind items one → NodeMayStand header kind items other → FitsAlarm alarm one → FitsAlarm alarm other → one ≡ other
 one_fitting header kind items None one other a b calm still = one_calm header kind items one other a b calm still
 one_fitting header kind items (Some alarm) one other a b is same = is ∙ sym same
 
@@ -47,14 +47,14 @@ pub one_state : (net : NetParts) (node : ℕ) (one other : NodeState) → HasSta
 one_state net node one other (standing, has, is) (standing', has', is') =
     let kinds : Some has'.kind ≡ Some has.kind = sym has'.is_node ∙ has.is_node in
     let kind : has'.kind ≡ has.kind = cc in
-    let stands = subst (λ (k : Kind). Stands net.header k (handed net.pool net.steps node) standing') kind has'.stands in
-    is ∙ ap state_of (one_fitting net.header has.kind (handed net.pool net.steps node) (alarm_at net node) standing standing' has.stands stands has.fits has'.fits) ∙ sym is'
+    let stands = subst (λ (k : NodeKind). NodeMayStand net.header k (handed net.pool net.steps node) standing') kind has'.stands in
+    is ∙ ap standing_state (one_fitting net.header has.kind (handed net.pool net.steps node) (alarm_at net node) standing standing' has.stands stands has.fits has'.fits) ∙ sym is'
 
 -- the cells that a node misses are one list
-pub same_missed : (header : Roots) (kind : Kind) (items : List Item) (cells others : CellList)
+pub same_missed : (header : Roots) (kind : NodeKind) (items : List Item) (cells others : CellList)
     → AreMissed header kind items cells → AreMissed header kind items others → cells ≡ others
 same_missed header full items cells others a b = same_left header (messages_of items) cells others a b
-same_missed header (light plan) items cells others a b = same_waited header plan (events_of items) cells others a b
+same_missed header (light plan) items cells others a b = same_waited header plan (item_events items) cells others a b
 
 -- a node that is there is of some kind
 pub some_kind : {A : Type 0} (nodes : List A) (node : ℕ) → node < length nodes → (kind : A) × (slice_get nodes node ≡ Some kind)

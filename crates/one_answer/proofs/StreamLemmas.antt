@@ -14,8 +14,8 @@ use Rattle.da_wire.specs.declared.streams.Pushed.{Pushed}
 use Rattle.da_wire.specs.declared.streams.Pushed.TheVariants as pushed
 use Rattle.frame_payloads.specs.Payloads.{max_payload}
 use Rattle.da_wire.specs.Reading.{Raw, promised, raw_of}
-use Rattle.da_wire.specs.Frames.{frames_of, bad_frame, frames_bytes, message_in}
-use Rattle.da_wire.specs.Streams.{err_of, refusal_at, first_refusal, IsPush}
+use Rattle.da_wire.specs.Frames.{frames_of, bad_frame, frames_bytes, raw_message}
+use Rattle.da_wire.specs.Streams.{err_of, refusal_at, why_no_frame, IsPush}
 use Rattle.da_wire.proofs.RawLemmas.{promised-append, raw_short, raw_long, raw_cut, raw_whole}
 use Rattle.da_wire.proofs.FrameListLemmas.{files_are_frames, frames_are_the_file, bad_frame_is_first}
 use Rattle.da_wire.proofs.StreamLemmas.{reached_refusal}
@@ -47,7 +47,7 @@ long_front here at part e =
 
 -- the first refusal stays, where it is one for a length, by the place at which no frame stands
 long_stays_at : (bytes more : List ℕ) (at : ℕ) (place : Option ℕ) → AreBytes bytes → bad_frame bytes ≡ place → refusal_at bytes place ≡ Some (TooLong at)
-    → first_refusal (bytes ++ more) ≡ Some (TooLong at)
+    → why_no_frame (bytes ++ more) ≡ Some (TooLong at)
 long_stays_at bytes more at None fits is e = absurd (none-some (TooLong at) e)
 long_stays_at bytes more at (Some here) fits is e =
     let (within, front, raws, why, refused) = bad_frame_is_first bytes here fits is in
@@ -63,7 +63,7 @@ long_stays_at bytes more at (Some here) fits is e =
     ∙ ap (λ (n : ℕ). Some (TooLong n)) long.2
 
 -- so it stays whatever bytes follow
-long_stays : (bytes more : List ℕ) (at : ℕ) → AreBytes bytes → first_refusal bytes ≡ Some (TooLong at) → first_refusal (bytes ++ more) ≡ Some (TooLong at)
+long_stays : (bytes more : List ℕ) (at : ℕ) → AreBytes bytes → why_no_frame bytes ≡ Some (TooLong at) → why_no_frame (bytes ++ more) ≡ Some (TooLong at)
 long_stays bytes more at fits e = long_stays_at bytes more at (bad_frame bytes) fits refl e
 
 -- ---- two pushes
@@ -76,10 +76,10 @@ later_bytes before piece c d few =
     ∙ sym (append_assoc before (take c piece) (take (d - c) (drop c piece)))
 
 -- a refusal for a length is there after one that takes more, too
-long_later : (before piece : List ℕ) (c d at : ℕ) → c ≤ d → AreBytes (before ++ take c piece) → first_refusal (before ++ take c piece) ≡ Some (TooLong at)
-    → first_refusal (before ++ take d piece) ≡ Some (TooLong at)
+long_later : (before piece : List ℕ) (c d at : ℕ) → c ≤ d → AreBytes (before ++ take c piece) → why_no_frame (before ++ take c piece) ≡ Some (TooLong at)
+    → why_no_frame (before ++ take d piece) ≡ Some (TooLong at)
 long_later before piece c d at few fits e =
-    ap first_refusal (later_bytes before piece c d few) ∙ long_stays (before ++ take c piece) (take (d - c) (drop c piece)) at fits e
+    ap why_no_frame (later_bytes before piece c d few) ∙ long_stays (before ++ take c piece) (take (d - c) (drop c piece)) at fits e
 
 -- where a push ended a frame, no later one has only the frames before
 one_more : (before piece : List ℕ) (c d : ℕ) (f : Raw) → c ≤ d → frames_of (before ++ take c piece) ≡ frames_of before ++ f ∷ []
@@ -148,7 +148,7 @@ both_frames : (before piece : List ℕ) (c d : ℕ) (m n : Option Message) → c
     → IsPush before piece c (pushed.Frame m) → IsPush before piece d (pushed.Frame n) → Same c d (pushed.Frame m) (pushed.Frame n)
 both_frames before piece c d m n few within fits others p q =
     let one = same_frame before piece c d p.frames.0 q.frames.0 few within fits others (p.frame.0 tt).1 (q.frame.0 tt).1 p.frames.1 q.frames.1 in
-    (one.0, ap pushed.Frame (p.frames.2 ∙ ap message_in one.1 ∙ sym q.frames.2))
+    (one.0, ap pushed.Frame (p.frames.2 ∙ ap raw_message one.1 ∙ sym q.frames.2))
 
 -- both found a bad one
 both_bad : (before piece : List ℕ) (c d at here : ℕ) → c ≤ d → AreBytes (before ++ take c piece)
@@ -158,13 +158,13 @@ both_bad before piece c d at here few fits p q =
     sym (long_later before piece c d at few fits ((p.bad at).0 refl)) ∙ (q.bad here).0 refl in
     let same : at ≡ here = cc in (
       ⊎_elim
-          (λ (was : first_refusal before ≡ Some (TooLong at)).
+          (λ (was : why_no_frame before ≡ Some (TooLong at)).
           p.later at was ∙ sym (q.later here (was ∙ both)))
-          (λ (new : first_refusal before ≡ Some (TooLong at) → ⊥).
+          (λ (new : why_no_frame before ≡ Some (TooLong at) → ⊥).
           let one : length before + c ≡ at + 5 = p.fifth at refl new in
           let other : length before + d ≡ here + 5 = q.fifth here refl (λ e. new (e ∙ sym both)) in
           omega (arith, one, other, same))
-          (is_long_at (first_refusal before) at),
+          (is_long_at (why_no_frame before) at),
       ap pushed.Bad same,
     )
 

@@ -8,7 +8,7 @@ ghost use Rattle.blob_feed.specs.declared.reading.ReadError.TheVariants as read;
 ghost use Rattle.blob_feed.specs.declared.followers.Last.{Last as LastParts};
 ghost use Rattle.blob_feed.specs.Filters.{wanted_by};
 ghost use Rattle.blob_feed.specs.Feeds.{Item, read_of};
-ghost use Rattle.blob_feed.specs.Followers.{count_of, kept_at, StandsFor};
+ghost use Rattle.blob_feed.specs.Followers.{height_count, kept_at, FollowerStands};
 ghost use Rattle.one_answer.specs.Ones.{AreOne};
 
 use axis_roots::NsAnswer;
@@ -38,7 +38,7 @@ pub fn answer_twice<F: Filter>(
     namespace: &Namespace,
     answer: &NsAnswer,
 ) -> (Result<Taken, FollowError>, Result<Taken, FollowError>)
-    requires height { 1 ≤ count_of one.old }
+    requires height { 1 ≤ height_count one.old }
     requires same { other.old ≡ one.old }
     ensures { (last : LastParts) → one.old.last ≡ Some last → AreOne (λ x. x) follow.NoMemory result.0 result.1 }
 {
@@ -51,8 +51,8 @@ pub fn answer_twice<F: Filter>(
 /// none.
 pub fn entries_twice<F: Filter>(one: &Follower<F>, other: &Follower<F>)
     requires filter { other.now.filter ≡ one.now.filter }
-    ensures { (items : List Item) → StandsFor (wanted_by F.answers one.now.filter) one.now items →
-        StandsFor (wanted_by F.answers one.now.filter) other.now items → (n : ℕ) (name : Name) →
+    ensures { (items : List Item) → FollowerStands (wanted_by F.answers one.now.filter) one.now items →
+        FollowerStands (wanted_by F.answers one.now.filter) other.now items → (n : ℕ) (name : Name) →
         option_map read_of (kept_at one.now n name) ≡ option_map read_of (kept_at other.now n name) }
 {
     feed_laws::<F>();
@@ -65,10 +65,10 @@ pub fn header_twice<F: Filter>(
     header: Header,
     copy: Header,
 ) -> bool
-    requires few { count_of one.old < 2 ^ 32 - 1 }
+    requires few { height_count one.old < 2 ^ 32 - 1 }
     requires same { other.old ≡ one.old }
     requires copy { copy ≡ header }
-    ensures { (items : List Item) → StandsFor (wanted_by F.answers one.old.filter) one.old items →
+    ensures { (items : List Item) → FollowerStands (wanted_by F.answers one.old.filter) one.old items →
         result ≡ true → (n : ℕ) (name : Name) →
         option_map read_of (kept_at one.new n name) ≡ option_map read_of (kept_at other.new n name) }
 {
@@ -89,9 +89,9 @@ pub fn answered_twice<F: Filter>(
     namespace: &Namespace,
     answer: &NsAnswer,
 ) -> bool
-    requires height { 1 ≤ count_of one.old }
+    requires height { 1 ≤ height_count one.old }
     requires same { other.old ≡ one.old }
-    ensures { (items : List Item) → StandsFor (wanted_by F.answers one.old.filter) one.old items →
+    ensures { (items : List Item) → FollowerStands (wanted_by F.answers one.old.filter) one.old items →
         result ≡ true → (n : ℕ) (name : Name) →
         option_map read_of (kept_at one.new n name) ≡ option_map read_of (kept_at other.new n name) }
 {

@@ -4,7 +4,7 @@ ghost use Rattle.std.specs.Prelude.{◌≡◌, ◌≤◌, ◌+◌, ℕ, List, Re
 ghost use Rattle.std.specs.Option.{option_copied};
 ghost use Rattle.namespace_id.specs.declared.cells.Cell.{Cell as Place};
 ghost use Rattle.light_node.specs.declared.events.Event.{Event as Happened};
-ghost use Rattle.light_node.specs.Nodes.{StandsFor};
+ghost use Rattle.light_node.specs.Nodes.{NodeStands};
 ghost use Rattle.one_answer.specs.Pickers.{PicksOne};
 
 use axis_roots::{CheckRefusal, FraudClaim, Message};
@@ -20,8 +20,8 @@ pub fn event_twice<F: Picker>(
 ) -> (LightState, LightState)
     requires header { other.old.header ≡ one.old.header }
     requires copy { copy ≡ event }
-    ensures { (plan : List Place) (events : List Happened) → StandsFor F.picks one.old plan events →
-        StandsFor F.picks other.old plan events → result.0 ≡ result.1 }
+    ensures { (plan : List Place) (events : List Happened) → NodeStands F.picks one.old plan events →
+        NodeStands F.picks other.old plan events → result.0 ≡ result.1 }
 {
     light_laws();
     let first = one.event(event);
@@ -46,8 +46,8 @@ pub fn judge_twice<F: Picker>(
 /// They have one state.
 pub fn state_twice<F: Picker>(one: &LightNode<F>, other: &LightNode<F>) -> (LightState, LightState)
     requires header { other.now.header ≡ one.now.header }
-    ensures { (plan : List Place) (events : List Happened) → StandsFor F.picks one.now plan events →
-        StandsFor F.picks other.now plan events → result.0 ≡ result.1 }
+    ensures { (plan : List Place) (events : List Happened) → NodeStands F.picks one.now plan events →
+        NodeStands F.picks other.now plan events → result.0 ≡ result.1 }
 {
     light_laws();
     (one.state(), other.state())
@@ -59,8 +59,8 @@ pub fn claim_twice<'a, F: Picker>(
     other: &'a LightNode<F>,
 ) -> (Option<&'a FraudClaim>, Option<&'a FraudClaim>)
     requires header { other.now.header ≡ one.now.header }
-    ensures { (plan : List Place) (events : List Happened) → StandsFor F.picks one.now plan events →
-        StandsFor F.picks other.now plan events → option_copied result.0 ≡ option_copied result.1 }
+    ensures { (plan : List Place) (events : List Happened) → NodeStands F.picks one.now plan events →
+        NodeStands F.picks other.now plan events → option_copied result.0 ≡ option_copied result.1 }
 {
     light_laws();
     (one.claim(), other.claim())
@@ -76,8 +76,8 @@ pub fn finish_twice<F: Picker>(
     requires header { other.header ≡ one.header }
     requires one_room { one_room.k ≡ one.header.k }
     requires other_room { other_room.k ≡ other.header.k }
-    ensures { (plan : List Place) (events : List Happened) → StandsFor F.picks one plan events →
-        StandsFor F.picks other plan events → result.0 ≡ result.1 }
+    ensures { (plan : List Place) (events : List Happened) → NodeStands F.picks one plan events →
+        NodeStands F.picks other plan events → result.0 ≡ result.1 }
 {
     light_laws();
     let first = one.finish(one_room);
@@ -95,8 +95,8 @@ pub fn waiting_twice<F: Picker>(
     requires header { other.now.header ≡ one.now.header }
     requires one_room { one_room.old.k ≡ one.now.header.k }
     requires other_room { other_room.old.k ≡ other.now.header.k }
-    ensures state { (plan : List Place) (events : List Happened) → StandsFor F.picks one.now plan events →
-        StandsFor F.picks other.now plan events → one_room.new ≡ other_room.new }
+    ensures state { (plan : List Place) (events : List Happened) → NodeStands F.picks one.now plan events →
+        NodeStands F.picks other.now plan events → one_room.new ≡ other_room.new }
 {
     one.waiting(one_room);
     other.waiting(other_room);
@@ -108,8 +108,8 @@ pub fn next_wanted_twice<F: Picker>(
     other: &LightNode<F>,
 ) -> (Option<Cell>, Option<Cell>)
     requires header { other.now.header ≡ one.now.header }
-    ensures { (plan : List Place) (events : List Happened) → StandsFor F.picks one.now plan events →
-        StandsFor F.picks other.now plan events → result.0 ≡ result.1 }
+    ensures { (plan : List Place) (events : List Happened) → NodeStands F.picks one.now plan events →
+        NodeStands F.picks other.now plan events → result.0 ≡ result.1 }
 {
     (one.next_wanted(), other.next_wanted())
 }
@@ -123,7 +123,7 @@ pub fn more_twice<F: Picker>(
     requires limit { one.old.planned + count ≤ one.old.limit }
     requires same { other.old ≡ one.old }
     ensures state { PicksOne F.picks one.old.pick →
-        (plan : List Place) (events : List Happened) → StandsFor F.picks one.old plan events →
+        (plan : List Place) (events : List Happened) → NodeStands F.picks one.old plan events →
         OnOk result.0 (OnOk result.1 (one.new.wanted ≡ other.new.wanted)) }
 {
     let first = one.more(count);

@@ -3,7 +3,7 @@
 ghost use Rattle.std.specs.Prelude.{◌≡◌, ◌<◌, ◌-◌, Result, None, IsOk, IfSome, length};
 ghost use Rattle.std.specs.List.{AllByRecursion};
 ghost use Rattle.da_net.specs.declared.items.NetError.TheVariants.{NoMemory as Full};
-ghost use Rattle.da_net.specs.Nodes.{IsFresh};
+ghost use Rattle.da_net.specs.Nodes.{IsFreshNode};
 ghost use Rattle.one_answer.specs.Ones.{AreOne};
 ghost use Rattle.da_net.specs.Nets.{alarm_at};
 
@@ -23,7 +23,7 @@ pub fn new_twice<F: Picker>(
     sizes: (u32, u32),
 ) -> (Result<Net<F>, NetError>, Result<Net<F>, NetError>)
     requires headers { headers.1 ≡ headers.0 }
-    requires lights { AllByRecursion (IsFresh F.picks headers.0) lights.items }
+    requires lights { AllByRecursion (IsFreshNode F.picks headers.0) lights.items }
     requires copies { copies.items ≡ lights.items }
     ensures { AreOne (λ x. x) Full result.0 result.1 }
 {

@@ -5,10 +5,10 @@ ghost use Rattle.std.specs.List.{AllByRecursion};
 ghost use Rattle.axis_roots.specs.declared.message.messages.Message.{Message as Sent};
 ghost use Rattle.axis_roots.specs.Proved.{IsUnder, kept_message};
 ghost use Rattle.repair_queue.specs.declared.fed.SessionState.TheVariants as state;
-ghost use Rattle.repair_queue.specs.SessionParts.{StandsFor};
-ghost use Rattle.repair_queue.specs.Sessions.{state_of};
+ghost use Rattle.repair_queue.specs.SessionParts.{SessionStands};
+ghost use Rattle.repair_queue.specs.Sessions.{session_state};
 ghost use Rattle.repair_queue.specs.Verdicts.{AreAlike};
-ghost use Rattle.repair_queue.specs.Answers.{parts_of};
+ghost use Rattle.repair_queue.specs.Answers.{verdict_parts};
 
 use axis_roots::{Message, Proved, RefusedMessage};
 use data_header::Header;
@@ -25,7 +25,7 @@ pub fn repair_list_twice(
 ) -> (Result<Verdict, NoMemory>, Result<Verdict, NoMemory>)
     requires under { AllByRecursion (IsUnder header.now) messages.items }
     requires copy { copy.items ≡ messages.items }
-    ensures { IfOk result.0 (λ one. IfOk result.1 (λ other. AreAlike (parts_of one) (parts_of other))) }
+    ensures { IfOk result.0 (λ one. IfOk result.1 (λ other. AreAlike (verdict_parts one) (verdict_parts other))) }
 {
     verdict_laws();
     let first = repair_list(alloc, header, messages);
@@ -36,8 +36,8 @@ pub fn repair_list_twice(
 /// Two verdicts of sessions that stand for one list are alike.
 pub fn finish_twice(one: Session, other: Session) -> (Verdict, Verdict)
     requires header { other.header ≡ one.header }
-    ensures { (ms : List Sent) → StandsFor one ms → StandsFor other ms →
-        AreAlike (parts_of result.0) (parts_of result.1) }
+    ensures { (ms : List Sent) → SessionStands one ms → SessionStands other ms →
+        AreAlike (verdict_parts result.0) (verdict_parts result.1) }
 {
     verdict_laws();
     let first = one.finish();
@@ -51,8 +51,8 @@ pub fn feed_twice(one: Session, other: Session, message: Proved, copy: Proved) -
     requires under { IsUnder one.header message }
     requires under_copy { IsUnder one.header copy }
     requires copy { kept_message copy ≡ kept_message message }
-    ensures { (ms : List Sent) → StandsFor one ms → StandsFor other ms →
-        AreAlike (parts_of result.0) (parts_of result.1) }
+    ensures { (ms : List Sent) → SessionStands one ms → SessionStands other ms →
+        AreAlike (verdict_parts result.0) (verdict_parts result.1) }
 {
     let mut one = one;
     let mut other = other;
@@ -90,11 +90,11 @@ pub fn missing_twice(
     other_room: &mut CellRoom,
 )
     requires header { other.now.header ≡ one.now.header }
-    requires one_open { state_of one.now ≡ state.Open }
-    requires other_open { state_of other.now ≡ state.Open }
+    requires one_open { session_state one.now ≡ state.Open }
+    requires other_open { session_state other.now ≡ state.Open }
     requires one_room { one_room.old.k ≡ one.now.header.k }
     requires other_room { other_room.old.k ≡ other.now.header.k }
-    ensures state { (ms : List Sent) → StandsFor one.now ms → StandsFor other.now ms →
+    ensures state { (ms : List Sent) → SessionStands one.now ms → SessionStands other.now ms →
         one_room.new ≡ other_room.new }
 {
     one.missing(one_room);
@@ -104,9 +104,9 @@ pub fn missing_twice(
 /// They have all cells, or both have not.
 pub fn has_all_twice(one: &Session, other: &Session) -> (bool, bool)
     requires header { other.now.header ≡ one.now.header }
-    requires one_open { state_of one.now ≡ state.Open }
-    requires other_open { state_of other.now ≡ state.Open }
-    ensures { (ms : List Sent) → StandsFor one.now ms → StandsFor other.now ms → result.0 ≡ result.1 }
+    requires one_open { session_state one.now ≡ state.Open }
+    requires other_open { session_state other.now ≡ state.Open }
+    ensures { (ms : List Sent) → SessionStands one.now ms → SessionStands other.now ms → result.0 ≡ result.1 }
 {
     (one.has_all(), other.has_all())
 }

@@ -3,7 +3,7 @@
 ghost use Rattle.std.specs.Prelude.{◌≡◌, ◌<◌, ◌+◌, ◌^◌, ℕ, List, length};
 ghost use Rattle.std.specs.Option.{option_map};
 ghost use Rattle.da_wire.specs.Reading.{raw_seen};
-ghost use Rattle.da_wire.specs.Streams.{StandsFor};
+ghost use Rattle.da_wire.specs.Streams.{StreamStands};
 
 use da_wire::{FrameError, FrameStream, Pushed, RawFrame};
 
@@ -15,7 +15,7 @@ pub fn push_twice(
 ) -> ((usize, Pushed), (usize, Pushed))
     requires one { one.old.taken + length piece.now < 2 ^ 64 }
     requires other { other.old.taken + length piece.now < 2 ^ 64 }
-    ensures { (bytes : List ℕ) → StandsFor one.old bytes → StandsFor other.old bytes → result.0 ≡ result.1 }
+    ensures { (bytes : List ℕ) → StreamStands one.old bytes → StreamStands other.old bytes → result.0 ≡ result.1 }
 {
     let first = one.push(piece);
     let second = other.push(piece);
@@ -27,7 +27,7 @@ pub fn last_twice<'a>(
     one: &'a FrameStream,
     other: &'a FrameStream,
 ) -> (Option<RawFrame<'a>>, Option<RawFrame<'a>>)
-    ensures { (bytes : List ℕ) → StandsFor one.now bytes → StandsFor other.now bytes →
+    ensures { (bytes : List ℕ) → StreamStands one.now bytes → StreamStands other.now bytes →
         option_map (λ f. raw_seen f) result.0 ≡ option_map (λ f. raw_seen f) result.1 }
 {
     (one.last(), other.last())
@@ -35,7 +35,7 @@ pub fn last_twice<'a>(
 
 /// They have one refusal of their end, or none.
 pub fn end_twice(one: &FrameStream, other: &FrameStream) -> (Option<FrameError>, Option<FrameError>)
-    ensures { (bytes : List ℕ) → StandsFor one.now bytes → StandsFor other.now bytes → result.0 ≡ result.1 }
+    ensures { (bytes : List ℕ) → StreamStands one.now bytes → StreamStands other.now bytes → result.0 ≡ result.1 }
 {
     (one.end(), other.end())
 }

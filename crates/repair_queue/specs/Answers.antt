@@ -13,16 +13,16 @@ use Rattle.repair_queue.specs.declared.ending.Ended.TheVariants as ended
 use Rattle.repair_queue.specs.Verdicts.{VerdictParts, whole, missing, fraud, clash}
 
 -- an answer as contracts see it
-abbrev pub parts_of : Verdict → VerdictParts
-parts_of (Whole square) = whole square
-parts_of (Fraud proof) = fraud proof.claim
-parts_of (Missing cells) = missing cells
-parts_of (Clash pair) = clash pair.left pair.right
+abbrev pub verdict_parts : Verdict → VerdictParts
+verdict_parts (Whole square) = whole square
+verdict_parts (Fraud proof) = fraud proof.claim
+verdict_parts (Missing cells) = missing cells
+verdict_parts (Clash pair) = clash pair.left pair.right
 
 -- the answer with which a repair ends early
 abbrev pub EndsAs : Ended → Verdict → Type 0
-EndsAs (ended.Fraud proof) verdict = parts_of verdict ≡ fraud proof.claim
-EndsAs (ended.Clash pair) verdict = parts_of verdict ≡ clash pair.left pair.right
+EndsAs (ended.Fraud proof) verdict = verdict_parts verdict ≡ fraud proof.claim
+EndsAs (ended.Clash pair) verdict = verdict_parts verdict ≡ clash pair.left pair.right
 
 -- a sample of a list that is proved and the square name a collision
 abbrev pub SomeNames : Roots → List Message → SquareShares → Type 0

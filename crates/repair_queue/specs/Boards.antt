@@ -41,8 +41,8 @@ given_of b = slot_in b.pool
 abbrev pub decided_of : Board → Flags
 decided_of b = mark_of b.marks
 
-abbrev pub share_of : Board → Shared
-share_of b = share_at (2 * b.grid.k) b.grid.shares
+abbrev pub shared_of : Board → Shared
+shared_of b = share_at (2 * b.grid.k) b.grid.shares
 
 -- whether the row or the column of a cell is decided
 abbrev pub is_lined : Flags → Cell → Bool
@@ -57,15 +57,15 @@ abbrev pub found_count : Kept → Flags → Axis → ℕ → ℕ → ℕ
 found_count slot flag axis i n = count_from (λ pos. is_found slot flag (cell_on axis i pos)) 0 n
 
 -- the share that the first of two samples shows, blank where there is none
-abbrev pub first_share : Option Proved → Option Proved → Share
-first_share (Some kept) slot = (kept_message kept).share
-first_share None (Some kept) = (kept_message kept).share
-first_share None None = blank
+abbrev pub share_of_first : Option Proved → Option Proved → Share
+share_of_first (Some kept) slot = (kept_message kept).share
+share_of_first None (Some kept) = (kept_message kept).share
+share_of_first None None = blank
 
 -- a share that is known of a cell: that of its decided row or column, else that which a sample shows
 abbrev pub found_share : Kept → Flags → Shared → Cell → Share
 found_share slot flag shares cell =
-    if is_lined flag cell then shares cell else first_share (slot Row cell) (slot Col cell)
+    if is_lined flag cell then shares cell else share_of_first (slot Row cell) (slot Col cell)
 
 -- where the cells of a row or a column lie on decided ones, a line has their shares
 abbrev pub AreAlikeLined : ℕ → Flags → Shared → Axis → ℕ → List Share → Type 0
@@ -114,7 +114,7 @@ AreWaiting k flag counts queue = (axis : Axis) (i : ℕ) → i < 2 * k → flag 
 pub record IsGood (header : Roots) (b : Board) : Type 0 where
   pub width : header.k ≡ b.grid.k
   pub parts : AreParts b
-  pub sound : IsSound header (given_of b) (decided_of b) (share_of b)
+  pub sound : IsSound header (given_of b) (decided_of b) (shared_of b)
   pub leaves : AreLeavesOf header.k (decided_of b) b.grid.shares b.leaves.items
   pub counted : AreCounted header.k (given_of b) (decided_of b) (count_of b.counts)
   pub queued : AreWaiting header.k (decided_of b) (count_of b.counts) (pending b.counts)
@@ -135,4 +135,4 @@ pub record Stands (header : Roots) (ms : List Message) (slot : Kept) (flag : Fla
 
 -- what a board keeps stands for these samples
 abbrev pub HoldsFor : Roots → List Message → Board → Type 0
-HoldsFor header ms b = Stands header ms (given_of b) (decided_of b) (share_of b)
+HoldsFor header ms b = Stands header ms (given_of b) (decided_of b) (shared_of b)

@@ -9,7 +9,7 @@ use Rattle.axis_roots.specs.Proved.{kept_message, IsUnder}
 use Rattle.axis_roots.specs.Lines.{cell_on, entry}
 use Rattle.repair_queue.specs.declared.boards.Board.{Board}
 use Rattle.repair_queue.specs.Slots.{Kept, Flags, IsApart, IsAlike}
-use Rattle.repair_queue.specs.Boards.{Shared, is_lined, is_found, found_share, IsSound, given_of, decided_of, share_of}
+use Rattle.repair_queue.specs.Boards.{Shared, is_lined, is_found, found_share, IsSound, given_of, decided_of, shared_of}
 
 -- no other share is known of the cell
 pub record IsAlikeAt (slot : Kept) (flag : Flags) (shares : Shared) (cell : Cell) (share : Share) : Type 0 where
@@ -27,7 +27,7 @@ pub record IsReadable (header : Roots) (b : Board) : Type 0 where
   pub width : header.k ≡ b.grid.k
   pub pool_width : b.pool.places.k ≡ b.grid.k
   pub marks_width : b.marks.k ≡ b.grid.k
-  pub sound : IsSound header (given_of b) (decided_of b) (share_of b)
+  pub sound : IsSound header (given_of b) (decided_of b) (shared_of b)
 
 -- at most samples of this cell were taken out
 pub record IsTakenAt (old new : Board) (cell : Cell) : Type 0 where
@@ -41,14 +41,14 @@ pub record IsOtherMessage (header : Roots) (b : Board) (cell : Cell) (share : Sh
   pub under : IsUnder header kept
   pub cell_is : (kept_message kept).cell ≡ cell
   pub other : (kept_message kept).share ≢ share
-  pub known : ((is_lined (decided_of b) cell ≡ false) × ((axis : Axis) × (given_of b axis cell ≡ Some kept))) ⊎ ((is_lined (decided_of b) cell ≡ true) × ((kept_message kept).share ≡ share_of b cell))
+  pub known : ((is_lined (decided_of b) cell ≡ false) × ((axis : Axis) × (given_of b axis cell ≡ Some kept))) ⊎ ((is_lined (decided_of b) cell ≡ true) × ((kept_message kept).share ≡ shared_of b cell))
 
 -- the position at which another share is known than the line's, if there is one
 abbrev pub IsApartOrAlike : ℕ → Board → Axis → ℕ → List Share → Option ℕ → Type 0
 IsApartOrAlike k b axis i line None =
-    (pos : ℕ) → pos < 2 * k → IsAlikeAt (given_of b) (decided_of b) (share_of b) (cell_on axis i pos) (entry line pos)
+    (pos : ℕ) → pos < 2 * k → IsAlikeAt (given_of b) (decided_of b) (shared_of b) (cell_on axis i pos) (entry line pos)
 IsApartOrAlike k b axis i line (Some pos) =
-    (pos < 2 * k) × IsApartAt (given_of b) (decided_of b) (share_of b) (cell_on axis i pos) (entry line pos)
+    (pos < 2 * k) × IsApartAt (given_of b) (decided_of b) (shared_of b) (cell_on axis i pos) (entry line pos)
 
 -- the cells of a row or a column at these positions are known
 abbrev pub AreFoundAt : Kept → Flags → Axis → ℕ → List ℕ → Type 0

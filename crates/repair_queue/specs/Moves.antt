@@ -15,7 +15,7 @@ use Rattle.repair_queue.specs.declared.taking.Taken.TheVariants.{Kept, Against, 
 use Rattle.repair_queue.specs.declared.ending.Ended.{Ended}
 use Rattle.repair_queue.specs.Lines.{AreFacts}
 use Rattle.repair_queue.specs.Repairs.{IsEnd}
-use Rattle.repair_queue.specs.Boards.{given_of, decided_of, share_of, is_lined, IsGood, HoldsFor, AreAtRest}
+use Rattle.repair_queue.specs.Boards.{given_of, decided_of, shared_of, is_lined, IsGood, HoldsFor, AreAtRest}
 use Rattle.repair_queue.specs.Tools.{AreTools}
 
 -- a sample is kept, or its share was known
@@ -25,12 +25,12 @@ IsKeptOn header s t m =
 
 -- what comes of a sample: it is kept; or a decided row or column through its cell has another share; or there is none and
 -- a sample that is kept along its axis shows another one
-abbrev pub IsEntered : Roots → Board → Board → Proved → Taken → Type 0
-IsEntered header s t message Kept = IsKeptOn header s t (kept_message message)
-IsEntered header s t message (Against axis back) =
+abbrev pub EntersSample : Roots → Board → Board → Proved → Taken → Type 0
+EntersSample header s t message Kept = IsKeptOn header s t (kept_message message)
+EntersSample header s t message (Against axis back) =
     (back ≡ message) × (t ≡ s) × (decided_of s axis (index axis (kept_message message).cell) ≡ true)
-    × (share_of s (kept_message message).cell ≢ (kept_message message).share)
-IsEntered header s t message (Beside back kept) =
+    × (shared_of s (kept_message message).cell ≢ (kept_message message).share)
+EntersSample header s t message (Beside back kept) =
     (back ≡ message) × (given_of s (kept_message message).axis (kept_message message).cell ≡ Some kept)
     × ((kept_message kept).share ≢ (kept_message message).share)
     × (is_lined (decided_of s) (kept_message message).cell ≡ false)

@@ -21,8 +21,8 @@ pub record PlaceParts : Type 0 where
   pub cols : List ℕ
 
 -- the place of a cell along an axis
-abbrev pub place_of : PlaceParts → Axis → Cell → ℕ
-place_of p = places_in p.k p.rows p.cols
+abbrev pub cell_place : PlaceParts → Axis → Cell → ℕ
+cell_place p = places_in p.k p.rows p.cols
 
 -- there is a place for each cell along each axis
 pub record ArePlaces (p : PlaceParts) : Type 0 where

@@ -9,7 +9,7 @@ use Rattle.axis_roots.specs.declared.message.proved.Proved.{Proved}
 use Rattle.axis_roots.specs.Proved.{kept_message}
 use Rattle.axis_roots.specs.Lines.{cell_on}
 use Rattle.repair_queue.specs.Slots.{Kept}
-use Rattle.repair_queue.specs.Places.{PlaceParts, place_of}
+use Rattle.repair_queue.specs.Places.{PlaceParts, cell_place}
 use Rattle.repair_queue.specs.Counting.{count_from, sum_below}
 
 -- a pool as contracts see it: the place of each cell's sample; an empty place, and behind it the samples and the places
@@ -26,7 +26,7 @@ slots_by given place axis cell = get_or given (place axis cell) None
 
 -- the sample that is kept of a cell along an axis, if one is
 abbrev pub slot_in : PoolParts → Kept
-slot_in p = slots_by p.given (place_of p.places)
+slot_in p = slots_by p.given (cell_place p.places)
 
 -- how many samples along an axis are kept of the cells of a row
 abbrev pub samples_along : ℕ → Kept → Axis → ℕ → ℕ

@@ -37,8 +37,8 @@ pub record SessionParts : Type 0 where
   pub ended : SessionEnd
 
 -- the sample that is kept of a cell along an axis, if one is
-abbrev pub message_at : SessionParts → Axis → Cell → Option Message
-message_at s axis cell = get_or s.kept (places_in s.header.k s.row_places s.col_places axis cell) None
+abbrev pub message_kept : SessionParts → Axis → Cell → Option Message
+message_kept s axis cell = get_or s.kept (places_in s.header.k s.row_places s.col_places axis cell) None
 
 -- the rows and columns that were decided
 abbrev pub marks_of : SessionParts → Flags
@@ -50,7 +50,7 @@ is_decided s cell = marks_of s Row cell.row || marks_of s Col cell.col
 
 -- whether a cell is known: it lies on a decided row or column, or a sample of it is kept
 abbrev pub is_known : SessionParts → Cell → Bool
-is_known s cell = is_decided s cell || is_some (message_at s Row cell) || is_some (message_at s Col cell)
+is_known s cell = is_decided s cell || is_some (message_kept s Row cell) || is_some (message_kept s Col cell)
 
 -- the share that is kept for a cell on a decided row or column
 abbrev pub line_share : SessionParts → Cell → Share
@@ -64,7 +64,7 @@ pub record IsShownBy (header : Roots) (ms : List Message) (cell : Cell) (m : Mes
 
 -- a sample of a cell is kept that shows this share
 abbrev pub KeepsShare : SessionParts → Cell → Share → Type 0
-KeepsShare s cell share = (axis : Axis) × (m : Message) × (message_at s axis cell ≡ Some m) × (m.share ≡ share)
+KeepsShare s cell share = (axis : Axis) × (m : Message) × (message_kept s axis cell ≡ Some m) × (m.share ≡ share)
 
 -- nothing has ended it. The known cells of the square are the recoverable ones. The samples are settled; exactly the
 -- rows and columns with k recoverable cells are decided; and the share that is kept for a cell of one is what the facts
@@ -76,7 +76,7 @@ pub record StandsOpen (s : SessionParts) (ms : List Message) : Type 0 where
       → (marks_of s axis i ≡ true) ↔ IsDecided s.header ms axis i
   pub shares : (cell : Cell) → is_in_square s.header.k cell ≡ true → is_decided s cell ≡ true
       → Fact s.header ms cell (line_share s cell)
-  pub kept : (axis : Axis) (cell : Cell) (m : Message) → is_decided s cell ≡ false → message_at s axis cell ≡ Some m
+  pub kept : (axis : Axis) (cell : Cell) (m : Message) → is_decided s cell ≡ false → message_kept s axis cell ≡ Some m
       → IsShownBy s.header ms cell m
   pub shown : (cell : Cell) (m : Message) → is_decided s cell ≡ false → IsShownBy s.header ms cell m
       → KeepsShare s cell m.share
@@ -88,5 +88,5 @@ StandsBy s ms (accused claim) = IsFraud s.header ms claim
 StandsBy s ms (collided left right) = IsFoundClash s.header ms left right
 
 -- a session stands for these samples
-abbrev pub StandsFor : SessionParts → List Message → Type 0
-StandsFor s ms = StandsBy s ms s.ended
+abbrev pub SessionStands : SessionParts → List Message → Type 0
+SessionStands s ms = StandsBy s ms s.ended

@@ -13,7 +13,7 @@ use Rattle.repair_queue.specs.declared.fed.SessionState.TheVariants as state
 use Rattle.repair_queue.specs.declared.verdict.Verdict.{Verdict}
 use Rattle.repair_queue.specs.declared.verdict.Verdict.TheVariants.{Whole, Fraud, Missing, Clash}
 use Rattle.repair_queue.specs.Closures.{Half}
-use Rattle.repair_queue.specs.Boards.{given_of, decided_of, share_of, is_found}
+use Rattle.repair_queue.specs.Boards.{given_of, decided_of, shared_of, is_found}
 use Rattle.repair_queue.specs.SessionParts.{SessionParts, SessionEnd, going, accused, collided}
 
 -- the state with what ended a session
@@ -23,8 +23,8 @@ state_by (accused claim) = state.Fraud
 state_by (collided left right) = state.Clash
 
 -- the state of a session
-abbrev pub state_of : SessionParts → SessionState
-state_of s = state_by s.ended
+abbrev pub session_state : SessionParts → SessionState
+session_state s = state_by s.ended
 
 -- the cells of the square that aren't recoverable, row-major
 pub record AreLeft (header : Roots) (ms : List Message) (cells : CellList) : Type 0 where
@@ -42,7 +42,7 @@ pub record AreNotFound (b : Board) (cells : CellList) : Type 0 where
 -- the shares of the original cells, row-major
 pub record AreOriginals (b : Board) (shares : List Share) : Type 0 where
   pub count : length shares ≡ b.grid.k * b.grid.k
-  pub are : (cell : Cell) → is_original b.grid.k cell ≡ true → share_at b.grid.k shares cell ≡ share_of b cell
+  pub are : (cell : Cell) → is_original b.grid.k cell ≡ true → share_at b.grid.k shares cell ≡ shared_of b cell
 
 -- an answer goes with a state: a square or missing cells with an open one
 abbrev pub IsOfState : SessionState → Verdict → Type 0

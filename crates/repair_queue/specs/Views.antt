@@ -16,15 +16,15 @@ end_of (Some (Fraud proof)) = accused proof.claim
 end_of (Some (Clash clash)) = collided clash.left clash.right
 
 -- the sample of a certificate, if there is one
-abbrev pub message_of : Option Proved → Option Message
-message_of None = None
-message_of (Some kept) = Some (kept_message kept)
+abbrev pub certified_message : Option Proved → Option Message
+certified_message None = None
+certified_message (Some kept) = Some (kept_message kept)
 
 -- a session by its header, its board and what ended it
 abbrev pub parts_by : Roots → Board → Option Ended → SessionParts
 parts_by header b end = record {
   header = header;
-  kept = map message_of b.pool.given;
+  kept = map certified_message b.pool.given;
   row_places = b.pool.places.rows;
   col_places = b.pool.places.cols;
   row_marks = b.marks.rows.items;

@@ -11,7 +11,7 @@ ghost use Rattle.axis_roots.specs.Grids.{share_at};
 ghost use Rattle.repair_queue.specs.Slots.{IsApart, IsAlike};
 ghost use Rattle.repair_queue.specs.Counts.{count_of, pending};
 ghost use Rattle.repair_queue.specs.Pools.{slot_in};
-ghost use Rattle.repair_queue.specs.Boards.{mark_of, is_lined, is_found, given_of, decided_of, share_of, first_share, found_share, AreParts, IsGood};
+ghost use Rattle.repair_queue.specs.Boards.{mark_of, is_lined, is_found, given_of, decided_of, shared_of, share_of_first, found_share, AreParts, IsGood};
 
 use crate::counts::Counts;
 use crate::marks::Marks;
@@ -102,7 +102,7 @@ fn shown_share(pool: &Pool, cell: Cell) -> Option<&Share>
         ((is_some (slot_in pool.now Row cell) || is_some (slot_in pool.now Col cell)) ≡ false)
         (λ share.
         ((is_some (slot_in pool.now Row cell) || is_some (slot_in pool.now Col cell)) ≡ true)
-        × (share.now ≡ first_share (slot_in pool.now Row cell) (slot_in pool.now Col cell))) }
+        × (share.now ≡ share_of_first (slot_in pool.now Row cell) (slot_in pool.now Col cell))) }
 {
     if let Some(kept) = held_in(pool, Axis::Row, cell) {
         return Some(&kept.message().share);
@@ -121,7 +121,7 @@ pub(crate) fn known_share(board: &Board, cell: Cell) -> Option<&Share>
     ensures { MatchOption result
         (is_found (given_of board.now) (decided_of board.now) cell ≡ false)
         (λ share. (is_found (given_of board.now) (decided_of board.now) cell ≡ true) × (share.now
-        ≡ found_share (given_of board.now) (decided_of board.now) (share_of board.now) cell)) }
+        ≡ found_share (given_of board.now) (decided_of board.now) (shared_of board.now) cell)) }
 {
     if is_on_decided(&board.marks, cell) {
         return Some(board.grid.cell(cell));

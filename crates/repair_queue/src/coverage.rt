@@ -7,8 +7,8 @@ ghost use Rattle.namespace_id.specs.Cells.{is_in_square};
 ghost use Rattle.axis_roots.specs.declared.message.messages.Message.{Message};
 ghost use Rattle.repair_queue.specs.Closures.{Half};
 ghost use Rattle.repair_queue.specs.Boards.{mark_of};
-ghost use Rattle.repair_queue.specs.SessionParts.{StandsFor};
-ghost use Rattle.repair_queue.specs.Sessions.{state_of};
+ghost use Rattle.repair_queue.specs.SessionParts.{SessionStands};
+ghost use Rattle.repair_queue.specs.Sessions.{session_state};
 ghost use Rattle.repair_queue.specs.declared.fed.SessionState.TheVariants as state;
 
 use crate::fed::Session;
@@ -33,8 +33,8 @@ impl Session {
     /// Whether all cells of the square follow from what was fed, so that `finish` answers the square. Nothing has
     /// ended the session. It looks at a flag for each row, and takes no memory.
     pub fn has_all(&self) -> bool
-        requires open { state_of self.now ≡ state.Open }
-        ensures { (ms : List Message) → StandsFor self.now ms → (result ≡ true) ↔ ((cell : Cell) →
+        requires open { session_state self.now ≡ state.Open }
+        ensures { (ms : List Message) → SessionStands self.now ms → (result ≡ true) ↔ ((cell : Cell) →
             is_in_square self.now.header.k cell ≡ true → Half self.now.header ms cell) }
     {
         are_rows_marked(&self.board.marks)

@@ -8,7 +8,7 @@ ghost use Rattle.repair_queue.specs.Pools.{slot_in, HasPlace, StaysRoomy};
 ghost use Rattle.repair_queue.specs.Repairs.{Shows};
 ghost use Rattle.repair_queue.specs.Boards.{given_of, decided_of, is_lined, IsGood, AreAtRest};
 ghost use Rattle.repair_queue.specs.Tools.{AreTools};
-ghost use Rattle.repair_queue.specs.Moves.{IsKeptOn, IsEntered, TakesMessage, Steps};
+ghost use Rattle.repair_queue.specs.Moves.{IsKeptOn, EntersSample, TakesMessage, Steps};
 
 use crate::boards::{Board, decided_through};
 use crate::conflicts::{beside, conflict};
@@ -86,7 +86,7 @@ fn enter(board: &mut Board, header: &Header, message: Proved) -> Taken
     requires rest { AreAtRest header.now.k (given_of board.old) (decided_of board.old) }
     requires place { HasPlace board.old.pool }
     requires under { IsUnder header.now message }
-    ensures entered { IsEntered header.now board.old board.new message result }
+    ensures entered { EntersSample header.now board.old board.new message result }
     ensures room { StaysRoomy board.old.pool board.new.pool }
 {
     let shown = message.message();

@@ -3,7 +3,7 @@
 ghost use Rattle.std.specs.Prelude.{◌≡◌, ℕ, ◌*◌, ◌<◌, ◌≤◌, length, vec_capacity};
 ghost use Rattle.leopard_code.specs.Codewords.{IsCodeword, HasEntries};
 ghost use Rattle.repair_queue.specs.Closures.{AreChosen};
-ghost use Rattle.repair_queue.specs.Boards.{given_of, decided_of, share_of, found_count, IsGood};
+ghost use Rattle.repair_queue.specs.Boards.{given_of, decided_of, shared_of, found_count, IsGood};
 ghost use Rattle.repair_queue.specs.Tools.{AreGathered};
 
 use crate::boards::{Board, known_share};
@@ -28,7 +28,7 @@ pub(crate) fn gather(
     requires known { header.now.k ≤ vec_capacity known.old }
     requires given { header.now.k ≤ vec_capacity given.old }
     ensures chosen { AreChosen header.now.k known.new.items }
-    ensures gathered { AreGathered (given_of board.now) (decided_of board.now) (share_of board.now)
+    ensures gathered { AreGathered (given_of board.now) (decided_of board.now) (shared_of board.now)
         axis index known.new.items given.new.items }
     ensures known { header.now.k ≤ vec_capacity known.new }
     ensures given { header.now.k ≤ vec_capacity given.new }

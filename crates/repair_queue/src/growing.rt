@@ -9,9 +9,9 @@ ghost use Rattle.std.specs.Prelude.{◌≡◌, ◌≢◌, ◌++◌, ◌∷◌, [
 ghost use Rattle.axis_roots.specs.declared.message.messages.Message.{Message};
 ghost use Rattle.axis_roots.specs.Proved.{IsUnder, kept_message};
 ghost use Rattle.repair_queue.specs.Verdicts.{IsVerdict};
-ghost use Rattle.repair_queue.specs.Answers.{parts_of};
-ghost use Rattle.repair_queue.specs.SessionParts.{StandsFor};
-ghost use Rattle.repair_queue.specs.Sessions.{state_of, IsOfState};
+ghost use Rattle.repair_queue.specs.Answers.{verdict_parts};
+ghost use Rattle.repair_queue.specs.SessionParts.{SessionStands};
+ghost use Rattle.repair_queue.specs.Sessions.{session_state, IsOfState};
 ghost use Rattle.repair_queue.specs.declared.fed.SessionState.TheVariants as state;
 
 use crate::Verdict;
@@ -62,8 +62,8 @@ impl GrowingSession {
     /// where there is none.
     pub fn new(alloc: Global, header: &Header) -> Result<GrowingSession, NoMemory>
         ensures header { IfOk result (λ s. s.header ≡ header.now) }
-        ensures stands { IfOk result (λ s. StandsFor s []) }
-        ensures open { IfOk result (λ s. state_of s ≡ state.Open) }
+        ensures stands { IfOk result (λ s. SessionStands s []) }
+        ensures open { IfOk result (λ s. session_state s ≡ state.Open) }
     {
         let k = width(header);
         let room = CellRoom::new(alloc, k)?;
@@ -86,9 +86,9 @@ impl GrowingSession {
     pub fn feed(&mut self, message: Proved) -> Result<(), NoMemory>
         requires under { IsUnder self.old.header message }
         ensures header { self.new.header ≡ self.old.header }
-        ensures stays { state_of self.old ≢ state.Open → self.new ≡ self.old }
-        ensures stands { OnOk result ((ms : List Message) → StandsFor self.old ms →
-            StandsFor self.new (ms ++ kept_message message ∷ [])) }
+        ensures stays { session_state self.old ≢ state.Open → self.new ≡ self.old }
+        ensures stands { OnOk result ((ms : List Message) → SessionStands self.old ms →
+            SessionStands self.new (ms ++ kept_message message ∷ [])) }
         ensures unchanged { OnErr result (self.new ≡ self.old) }
     {
         if self.ended.is_some() {
@@ -102,9 +102,9 @@ impl GrowingSession {
     /// Ends the session with the answer over everything that was fed. It takes no memory: a square has that of its
     /// extension, of which the rest is given back.
     pub fn finish(self) -> Verdict
-        ensures verdict { (ms : List Message) → StandsFor self ms →
-            IsVerdict self.header ms (parts_of result) }
-        ensures state { IsOfState (state_of self) result }
+        ensures verdict { (ms : List Message) → SessionStands self ms →
+            IsVerdict self.header ms (verdict_parts result) }
+        ensures state { IsOfState (session_state self) result }
     {
         let GrowingSession {
             header,

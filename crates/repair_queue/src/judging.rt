@@ -18,7 +18,7 @@ ghost use Rattle.repair_queue.specs.Repairs.{IsEnd};
 ghost use Rattle.repair_queue.specs.Steps.{IsSpare};
 ghost use Rattle.repair_queue.specs.Counts.{count_of};
 ghost use Rattle.repair_queue.specs.Pools.{StaysRoomy};
-ghost use Rattle.repair_queue.specs.Boards.{given_of, decided_of, share_of, found_count, found_share, is_found, AreAlikeLined, AreParts, IsGood, HoldsFor};
+ghost use Rattle.repair_queue.specs.Boards.{given_of, decided_of, shared_of, found_count, found_share, is_found, AreAlikeLined, AreParts, IsGood, HoldsFor};
 ghost use Rattle.repair_queue.specs.Tools.{AreTools, AreGathered, HasSpare};
 ghost use Rattle.repair_queue.specs.Judging.{IsAlikeAt, IsApartAt, IsReadable, IsTakenAt, AreFoundAt, AreShownBy, IsOtherMessage, IsApartOrAlike};
 ghost use Rattle.repair_queue.specs.Moves.{DecidesLine, SettlesLine, Drains, IsMessageAt};
@@ -43,9 +43,9 @@ fn is_apart(board: &Board, cell: Cell, share: &Share) -> bool
     requires parts { AreParts board.now }
     requires cell { is_in_square board.now.grid.k cell ≡ true }
     ensures apart { result ≡ true →
-        IsApartAt (given_of board.now) (decided_of board.now) (share_of board.now) cell share.now }
+        IsApartAt (given_of board.now) (decided_of board.now) (shared_of board.now) cell share.now }
     ensures alike { result ≡ false →
-        IsAlikeAt (given_of board.now) (decided_of board.now) (share_of board.now) cell share.now }
+        IsAlikeAt (given_of board.now) (decided_of board.now) (shared_of board.now) cell share.now }
 {
     if is_on_decided(&board.marks, cell) {
         return board.grid.cell(cell) != share;
@@ -59,11 +59,11 @@ fn first_apart(board: &Board, axis: Axis, index: u16, line: &[Share]) -> Option<
     requires index { index < 2 * board.now.grid.k }
     requires line { length line.now ≡ 2 * board.now.grid.k }
     ensures none { IsNone result → (pos : ℕ) → pos < 2 * board.now.grid.k →
-        IsAlikeAt (given_of board.now) (decided_of board.now) (share_of board.now)
+        IsAlikeAt (given_of board.now) (decided_of board.now) (shared_of board.now)
         (cell_on axis index pos)
         (entry line.now pos) }
     ensures some { IfSome result (λ pos. (pos < 2 * board.now.grid.k)
-        × IsApartAt (given_of board.now) (decided_of board.now) (share_of board.now)
+        × IsApartAt (given_of board.now) (decided_of board.now) (shared_of board.now)
         (cell_on axis index pos)
         (entry line.now pos)) }
 {
@@ -89,7 +89,7 @@ fn message_known(
     requires cell { is_in_square header.now.k cell ≡ true }
     requires known { is_found (given_of board.old) (decided_of board.old) cell ≡ true }
     ensures message { IsMessageAt header.now cell
-        (found_share (given_of board.old) (decided_of board.old) (share_of board.old) cell) result }
+        (found_share (given_of board.old) (decided_of board.old) (shared_of board.old) cell) result }
     ensures readable { IsReadable header.now board.new }
     ensures others { IsTakenAt board.old board.new cell }
     ensures room { room.new.k ≡ header.now.k }
@@ -114,7 +114,7 @@ fn message_other(
     requires room { room.old.k ≡ header.now.k }
     requires across { length across.old ≡ 2 * header.now.k }
     requires cell { is_in_square header.now.k cell ≡ true }
-    requires apart { IsApartAt (given_of board.old) (decided_of board.old) (share_of board.old)
+    requires apart { IsApartAt (given_of board.old) (decided_of board.old) (shared_of board.old)
         cell share.now }
     ensures message { IsOtherMessage header.now board.old cell share.now result }
     ensures room { room.new.k ≡ header.now.k }
@@ -145,7 +145,7 @@ fn messages_known(
     requires found { AreFoundAt (given_of board.old) (decided_of board.old) axis index known.now }
     requires spare { IsSpare header.now.k cells }
     ensures cells { (line : List Block) →
-        AreShownBy (given_of board.old) (decided_of board.old) (share_of board.old) axis index
+        AreShownBy (given_of board.old) (decided_of board.old) (shared_of board.old) axis index
         known.now line →
         AreOfLine header.now axis index line known.now result.items }
     ensures room { room.new.k ≡ header.now.k }
@@ -167,7 +167,7 @@ fn accuse(board: &mut Board, tools: &mut Tools, header: &Header, axis: Axis, ind
     requires index { index < 2 * header.now.k }
     requires chosen { AreChosen header.now.k tools.old.known.items }
     requires gathered { AreGathered (given_of board.old) (decided_of board.old)
-        (share_of board.old) axis index
+        (shared_of board.old) axis index
         tools.old.known.items tools.old.given.items }
     requires line { IsCodeword header.now.k tools.old.line.items }
     requires entries { HasEntries tools.old.known.items tools.old.given.items
@@ -211,7 +211,7 @@ fn contradict(
     requires index { index < 2 * header.now.k }
     requires pos { pos < 2 * header.now.k }
     requires line { IsLineOf header.now axis index tools.old.line.items }
-    requires apart { IsApartAt (given_of board.old) (decided_of board.old) (share_of board.old)
+    requires apart { IsApartAt (given_of board.old) (decided_of board.old) (shared_of board.old)
         (cell_on axis index pos) (entry tools.old.line.items pos) }
     ensures { (ms : List Message) → AreFacts header.now ms axis index tools.old.line.items →
         HoldsFor header.now ms board.old → IsEnd header.now ms result }
@@ -273,7 +273,7 @@ fn rebuild_line(board: &Board, tools: &mut Tools, header: &Header, axis: Axis, i
         index (2 * header.now.k) }
     ensures tools { AreTools header.now.k tools.new }
     ensures chosen { AreChosen header.now.k tools.new.known.items }
-    ensures gathered { AreGathered (given_of board.now) (decided_of board.now) (share_of board.now)
+    ensures gathered { AreGathered (given_of board.now) (decided_of board.now) (shared_of board.now)
         axis index tools.new.known.items tools.new.given.items }
     ensures line { IsCodeword header.now.k tools.new.line.items }
     ensures entries { HasEntries tools.new.known.items tools.new.given.items
@@ -309,7 +309,7 @@ fn has_root(
     requires tools { AreTools header.now.k tools.old }
     requires index { index < 2 * header.now.k }
     requires kept { are_kept ≡ true →
-        AreAlikeLined header.now.k (decided_of board.now) (share_of board.now) axis index
+        AreAlikeLined header.now.k (decided_of board.now) (shared_of board.now) axis index
         tools.old.line.items }
     ensures root { IsTrue result
         ↔ (line_strict_root header.now.k axis index tools.old.line.items

@@ -10,7 +10,7 @@ ghost use Rattle.befp_maker.specs.Conflicts.{IsLineOf};
 ghost use Rattle.repair_queue.specs.Slots.{IsFlagged};
 ghost use Rattle.repair_queue.specs.Counts.{count_of, pending};
 ghost use Rattle.repair_queue.specs.Pools.{slot_in, StaysRoomy};
-ghost use Rattle.repair_queue.specs.Boards.{given_of, decided_of, share_of, mark_of, is_lined, AreAlikeLined, AreCounted, IsGood};
+ghost use Rattle.repair_queue.specs.Boards.{given_of, decided_of, shared_of, mark_of, is_lined, AreAlikeLined, AreCounted, IsGood};
 ghost use Rattle.repair_queue.specs.Keeping.{IsAlikeAll, IsCountedIn, AreWrittenLeaves, IsClearedAt, IsClearedTo, IsLineKept};
 
 use crate::boards::{Board, is_found, is_on_decided};
@@ -133,7 +133,7 @@ fn keep_shares(
     requires off { decided_of board.old axis index ≡ false }
     requires line { IsLineOf header.now axis index line.now }
     requires alike { IsAlikeAll header.now.k (given_of board.old) (decided_of board.old)
-        (share_of board.old) axis index line.now }
+        (shared_of board.old) axis index line.now }
     requires digests { digests.now ≡ line_leaves header.now.k axis index line.now }
     ensures kept { IsLineKept header.now board.old board.new axis index line.now }
     ensures next { board.new.counts.next ≡ board.old.counts.next }
@@ -160,7 +160,7 @@ pub(crate) fn keep_line(
     requires off { decided_of board.old axis index ≡ false }
     requires line { IsLineOf header.now axis index line.now }
     requires alike { IsAlikeAll header.now.k (given_of board.old) (decided_of board.old)
-        (share_of board.old) axis index line.now }
+        (shared_of board.old) axis index line.now }
     requires digests { digests.now ≡ line_leaves header.now.k axis index line.now }
     ensures kept { IsLineKept header.now board.old board.new axis index line.now }
     ensures next { board.new.counts.next ≡ board.old.counts.next }

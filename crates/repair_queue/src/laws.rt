@@ -19,8 +19,8 @@ ghost use Rattle.repair_queue.specs.Closures.{Half, Fact, IsDecided, Covers};
 ghost use Rattle.repair_queue.specs.Derivations.{IsListed, IsSeen, IsFilled, IsShownPair, IsRebuiltPair};
 ghost use Rattle.repair_queue.specs.Settled.{IsSettled, Lines, Fits, along, CellsFit};
 ghost use Rattle.repair_queue.specs.Verdicts.{VerdictParts, whole, missing, fraud, clash, IsVerdict, IsOwnVerdict, AreAlike};
-ghost use Rattle.repair_queue.specs.SessionParts.{SessionParts, accused, collided, is_known, StandsFor};
-ghost use Rattle.repair_queue.specs.Sessions.{state_of};
+ghost use Rattle.repair_queue.specs.SessionParts.{SessionParts, accused, collided, is_known, SessionStands};
+ghost use Rattle.repair_queue.specs.Sessions.{session_state};
 ghost use Rattle.repair_queue.specs.declared.fed.SessionState.TheVariants as state;
 ghost use Rattle.repair_queue.specs.Laws.{HalfIsLeast, FactIsLeast, LinesAreFacts, FactsAreWhole, OwnUnlessNamed};
 
@@ -142,20 +142,20 @@ pub fn session_laws()
     // A session that stands for a list stands for each one with the same proved samples, whatever
     // their order and repeats.
     ensures same_proved { (s : SessionParts) (ms others : List Message) →
-        Covers s.header ms others → Covers s.header others ms → StandsFor s ms →
-        StandsFor s others }
+        Covers s.header ms others → Covers s.header others ms → SessionStands s ms →
+        SessionStands s others }
 
     // An open one knows exactly the recoverable cells of the square, and the list is settled.
-    ensures known { (s : SessionParts) (ms : List Message) → state_of s ≡ state.Open →
-        StandsFor s ms → (cell : Cell) → is_in_square s.header.k cell ≡ true →
+    ensures known { (s : SessionParts) (ms : List Message) → session_state s ≡ state.Open →
+        SessionStands s ms → (cell : Cell) → is_in_square s.header.k cell ≡ true →
         (is_known s cell ≡ true) ↔ Half s.header ms cell }
-    ensures settled { (s : SessionParts) (ms : List Message) → state_of s ≡ state.Open →
-        StandsFor s ms → IsSettled s.header ms }
+    ensures settled { (s : SessionParts) (ms : List Message) → session_state s ≡ state.Open →
+        SessionStands s ms → IsSettled s.header ms }
 
     // What ended another one is an answer.
     ensures accused { (s : SessionParts) (ms : List Message) (claim : ClaimParts) →
-        s.ended ≡ accused claim → StandsFor s ms → IsVerdict s.header ms (fraud claim) }
+        s.ended ≡ accused claim → SessionStands s ms → IsVerdict s.header ms (fraud claim) }
     ensures collided { (s : SessionParts) (ms : List Message) (left right : List ℕ) →
-        s.ended ≡ collided left right → StandsFor s ms →
+        s.ended ≡ collided left right → SessionStands s ms →
         IsVerdict s.header ms (clash left right) }
 {}

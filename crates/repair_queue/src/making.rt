@@ -10,7 +10,7 @@ ghost use Rattle.axis_roots.specs.Grids.{axis_shares, share_at};
 ghost use Rattle.befp_maker.specs.Conflicts.{IsLineOf};
 ghost use Rattle.repair_queue.specs.Slots.{IsKnown, IsEmptied, IsApart};
 ghost use Rattle.repair_queue.specs.Pools.{slot_in};
-ghost use Rattle.repair_queue.specs.Boards.{first_share};
+ghost use Rattle.repair_queue.specs.Boards.{share_of_first};
 
 use crate::pools::{Pool, held_in, is_other, take_out};
 use axis_roots::{Grid, Proved, cell_on, index, position};
@@ -64,7 +64,7 @@ pub(crate) fn take_first(pool: &mut Pool, cell: Cell) -> Proved
     ensures kept { (axis : Along) × (slot_in pool.old axis cell ≡ Some result)
         × IsEmptied (slot_in pool.old) (slot_in pool.new) axis cell }
     ensures share { (kept_message result).share
-        ≡ first_share (slot_in pool.old Row cell) (slot_in pool.old Col cell) }
+        ≡ share_of_first (slot_in pool.old Row cell) (slot_in pool.old Col cell) }
     ensures width { pool.new.places.k ≡ pool.old.places.k }
 {
     if held_in(pool, Axis::Row, cell).is_some() {

@@ -4,7 +4,7 @@ ghost use Rattle.std.specs.Prelude.{◌≡◌, ◌+◌, ◌*◌, ◌<◌, IsTrue
 ghost use Rattle.namespace_id.specs.declared.cells.Cell.{Cell as Place};
 ghost use Rattle.namespace_id.specs.declared.cells.Axis.{Axis as Along};
 ghost use Rattle.namespace_id.specs.Cells.{is_width, is_in_square};
-ghost use Rattle.repair_queue.specs.Places.{place_of, IsPlaced};
+ghost use Rattle.repair_queue.specs.Places.{cell_place, IsPlaced};
 
 use namespace_id::{Axis, Cell, NoMemory};
 use std::alloc::Global;
@@ -44,7 +44,7 @@ impl Places {
         requires width { IsTrue (is_width k) }
         ensures width { IfOk result (λ p. p.k ≡ k) }
         ensures none { IfOk result
-            (λ p. (axis : Along) (cell : Place) → place_of p axis cell ≡ 0) }
+            (λ p. (axis : Along) (cell : Place) → cell_place p axis cell ≡ 0) }
     {
         let side = 2 * k as usize;
         let rows = vec![in alloc; 0; side * side]?;
@@ -63,7 +63,7 @@ impl Places {
     /// The place of a cell along an axis.
     pub(crate) fn at(&self, axis: Axis, cell: Cell) -> usize
         requires cell { is_in_square self.now.k cell ≡ true }
-        ensures { result ≡ place_of self.now axis cell }
+        ensures { result ≡ cell_place self.now axis cell }
     {
         let at = number(self.k, cell);
         match axis {
@@ -76,7 +76,7 @@ impl Places {
     pub(crate) fn set(&mut self, axis: Axis, cell: Cell, place: usize)
         requires cell { is_in_square self.old.k cell ≡ true }
         ensures width { self.new.k ≡ self.old.k }
-        ensures placed { IsPlaced (place_of self.old) (place_of self.new) axis cell place }
+        ensures placed { IsPlaced (cell_place self.old) (cell_place self.new) axis cell place }
     {
         let at = number(self.k, cell);
         match axis {

@@ -35,7 +35,7 @@ impl Model for Pool {
     ghost use Rattle.std.specs.Prelude.{vec_capacity};
     ghost use Rattle.std.specs.Coded.{codes};
     ghost use Rattle.axis_roots.specs.contracts.message.proved.Proved as proved;
-    ghost use Rattle.repair_queue.specs.Places.{place_of};
+    ghost use Rattle.repair_queue.specs.Places.{cell_place};
     ghost use Rattle.repair_queue.specs.Pools.{PoolParts, IsPool};
 
     ghost Value = { PoolParts };
@@ -44,7 +44,7 @@ impl Model for Pool {
 
     ghost view = { λ p. record { places = p.places; given = p.given.items; free = p.free.items; capacity = vec_capacity p.given } };
 
-    ghost invariant = { λ p. IsPool p.places.k (place_of p.places) p.given.items p.free.items (vec_capacity p.free) };
+    ghost invariant = { λ p. IsPool p.places.k (cell_place p.places) p.given.items p.free.items (vec_capacity p.free) };
 }
 
 /// Stores a sample at a free place, else behind all others, and answers where.

@@ -8,8 +8,8 @@ ghost use Rattle.axis_roots.specs.Proved.{IsUnder, kept_message};
 ghost use Rattle.axis_roots.specs.Grids.{IsHeaderOf};
 ghost use Rattle.repair_queue.specs.Closures.{Covers};
 ghost use Rattle.repair_queue.specs.Verdicts.{VerdictParts, IsVerdict, IsOwnVerdict, AreAlike};
-ghost use Rattle.repair_queue.specs.Answers.{parts_of, SomeNames};
-ghost use Rattle.repair_queue.specs.SessionParts.{StandsFor};
+ghost use Rattle.repair_queue.specs.Answers.{verdict_parts, SomeNames};
+ghost use Rattle.repair_queue.specs.SessionParts.{SessionStands};
 
 use crate::Verdict;
 use crate::fed::Session;
@@ -22,8 +22,8 @@ use std::alloc::Global;
 fn feed_list(session: &mut Session, messages: Vec<Proved>)
     requires under { AllByRecursion (IsUnder session.old.header) messages.items }
     ensures header { session.new.header ≡ session.old.header }
-    ensures stands { (ms : List Sent) → StandsFor session.old ms →
-        StandsFor session.new (ms ++ map kept_message messages.items) }
+    ensures stands { (ms : List Sent) → SessionStands session.old ms →
+        SessionStands session.new (ms ++ map kept_message messages.items) }
 {
     for message in messages {
         session.feed(message);
@@ -34,7 +34,7 @@ fn feed_list(session: &mut Session, messages: Vec<Proved>)
 fn repaired(alloc: Global, header: &Header, messages: Vec<Proved>) -> Result<Verdict, NoMemory>
     requires under { AllByRecursion (IsUnder header.now) messages.items }
     ensures { IfOk result (λ verdict.
-        IsVerdict header.now (map kept_message messages.items) (parts_of verdict)) }
+        IsVerdict header.now (map kept_message messages.items) (verdict_parts verdict)) }
 {
     let mut session = Session::new(alloc, header)?;
     feed_list(&mut session, messages);
@@ -59,12 +59,12 @@ pub fn repair_list(
 ) -> Result<Verdict, NoMemory>
     requires under { AllByRecursion (IsUnder header.now) messages.items }
     ensures verdict { IfOk result (λ verdict.
-        IsVerdict header.now (map kept_message messages.items) (parts_of verdict)) }
+        IsVerdict header.now (map kept_message messages.items) (verdict_parts verdict)) }
 
     // Under the header of a square the answer is this square or the missing cells, or a sample and
     // the square name a collision.
     ensures own { IfOk result (λ verdict. (square : SquareShares) → IsHeaderOf header.now square →
-        IsOwnVerdict square (parts_of verdict)
+        IsOwnVerdict square (verdict_parts verdict)
         ⊎ SomeNames header.now (map kept_message messages.items) square) }
 
     // What another list with the same proved samples is answered, whatever their order and repeats,
@@ -72,7 +72,7 @@ pub fn repair_list(
     ensures order { IfOk result (λ verdict. (others : List Sent) (other : VerdictParts) →
         Covers header.now (map kept_message messages.items) others →
         Covers header.now others (map kept_message messages.items) →
-        IsVerdict header.now others other → AreAlike (parts_of verdict) other) }
+        IsVerdict header.now others other → AreAlike (verdict_parts verdict) other) }
 {
     repaired(alloc, header, messages)
 }

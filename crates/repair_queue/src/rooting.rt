@@ -9,7 +9,7 @@ ghost use Rattle.nmt_tree.specs.Digests.{leaf_digest};
 ghost use Rattle.nmt_tree.specs.Levels.{leaf_digests};
 ghost use Rattle.axis_roots.specs.Lines.{line_names, line_strict_root};
 ghost use Rattle.axis_roots.specs.Trees.{line_leaves};
-ghost use Rattle.repair_queue.specs.Boards.{is_lined, decided_of, share_of, IsGood, AreAlikeLined, AreLeavesTo};
+ghost use Rattle.repair_queue.specs.Boards.{is_lined, decided_of, shared_of, IsGood, AreAlikeLined, AreLeavesTo};
 
 use crate::boards::{Board, is_on_decided};
 use crate::placing::number;
@@ -32,7 +32,7 @@ fn leaf_of(
     requires cell { is_in_square header.now.k cell ≡ true }
     requires name { name.now ≡ leaf_namespace header.now.k cell share.now }
     requires kept { is_kept ≡ true → is_lined (decided_of board.now) cell ≡ true →
-        share_of board.now cell ≡ share.now }
+        shared_of board.now cell ≡ share.now }
     ensures { result ≡ leaf_digest name.now share.now }
 {
     if is_kept && is_on_decided(&board.marks, cell) {
@@ -102,7 +102,7 @@ fn digest_some(
     requires index { index < 2 * header.now.k }
     requires line { length line.now ≡ 2 * header.now.k }
     requires kept { are_kept ≡ true →
-        AreAlikeLined header.now.k (decided_of board.now) (share_of board.now) axis index line.now }
+        AreAlikeLined header.now.k (decided_of board.now) (shared_of board.now) axis index line.now }
     requires names { names.now ≡ line_names header.now.k axis index line.now }
     requires digests { length digests.old ≡ 2 * header.now.k }
     requires pos { pos < 2 * header.now.k }
@@ -139,7 +139,7 @@ pub(crate) fn digest_leaves(
     requires index { index < 2 * header.now.k }
     requires line { length line.now ≡ 2 * header.now.k }
     requires kept { are_kept ≡ true →
-        AreAlikeLined header.now.k (decided_of board.now) (share_of board.now) axis index line.now }
+        AreAlikeLined header.now.k (decided_of board.now) (shared_of board.now) axis index line.now }
     requires names { names.now ≡ line_names header.now.k axis index line.now }
     requires digests { length digests.old ≡ 2 * header.now.k }
     ensures { digests.new ≡ line_leaves header.now.k axis index line.now }
@@ -186,7 +186,7 @@ pub(crate) fn root_of_line(
     requires index { index < 2 * header.now.k }
     requires line { length line.now ≡ 2 * header.now.k }
     requires kept { are_kept ≡ true →
-        AreAlikeLined header.now.k (decided_of board.now) (share_of board.now) axis index line.now }
+        AreAlikeLined header.now.k (decided_of board.now) (shared_of board.now) axis index line.now }
     requires names { length names.old ≡ 2 * header.now.k }
     requires digests { length digests.old ≡ 2 * header.now.k }
     requires folded { length folded.old ≡ 2 * header.now.k }

@@ -25,10 +25,10 @@ ghost use Rattle.axis_roots.specs.Own.{IsOwn};
 ghost use Rattle.axis_roots.specs.Proved.{IsUnder, kept_message};
 ghost use Rattle.repair_queue.specs.Boards.{given_of, decided_of, IsGood, AreParts, AreAtRest, HoldsFor};
 ghost use Rattle.repair_queue.specs.Verdicts.{IsVerdict};
-ghost use Rattle.repair_queue.specs.Answers.{parts_of, EndsAs};
-ghost use Rattle.repair_queue.specs.SessionParts.{StandsFor};
+ghost use Rattle.repair_queue.specs.Answers.{verdict_parts, EndsAs};
+ghost use Rattle.repair_queue.specs.SessionParts.{SessionStands};
 ghost use Rattle.repair_queue.specs.Views.{end_of};
-ghost use Rattle.repair_queue.specs.Sessions.{state_by, state_of, IsOfState, AreLeft, AreNotFound, AreOriginals};
+ghost use Rattle.repair_queue.specs.Sessions.{state_by, session_state, IsOfState, AreLeft, AreNotFound, AreOriginals};
 ghost use Rattle.repair_queue.specs.declared.fed.SessionState.TheVariants as state;
 
 use crate::Verdict;
@@ -110,7 +110,7 @@ pub(crate) fn answer_open(board: Board, header: &Header, room: CellRoom) -> Verd
     requires rest { AreAtRest header.now.k (given_of board) (decided_of board) }
     requires cells { room.k ≡ header.now.k }
     ensures verdict { (ms : List Message) → HoldsFor header.now ms board →
-        IsVerdict header.now ms (parts_of result) }
+        IsVerdict header.now ms (verdict_parts result) }
     ensures state { IsOfState state.Open result }
 {
     let mut room = room;
@@ -142,8 +142,8 @@ impl Session {
     /// there is none.
     pub fn new(alloc: Global, header: &Header) -> Result<Session, NoMemory>
         ensures header { IfOk result (λ s. s.header ≡ header.now) }
-        ensures stands { IfOk result (λ s. StandsFor s []) }
-        ensures open { IfOk result (λ s. state_of s ≡ state.Open) }
+        ensures stands { IfOk result (λ s. SessionStands s []) }
+        ensures open { IfOk result (λ s. session_state s ≡ state.Open) }
     {
         let k = width(header);
         let room = CellRoom::new(alloc, k)?;
@@ -182,10 +182,10 @@ impl Session {
     pub fn feed(&mut self, message: Proved) -> SessionState
         requires under { IsUnder self.old.header message }
         ensures header { self.new.header ≡ self.old.header }
-        ensures state { result ≡ state_of self.new }
-        ensures stays { state_of self.old ≢ state.Open → self.new ≡ self.old }
-        ensures stands { (ms : List Message) → StandsFor self.old ms →
-            StandsFor self.new (ms ++ kept_message message ∷ []) }
+        ensures state { result ≡ session_state self.new }
+        ensures stays { session_state self.old ≢ state.Open → self.new ≡ self.old }
+        ensures stands { (ms : List Message) → SessionStands self.old ms →
+            SessionStands self.new (ms ++ kept_message message ∷ []) }
     {
         if self.ended.is_none() {
             self.board.pool.place_law();
@@ -196,7 +196,7 @@ impl Session {
 
     /// The state over everything that was fed. It takes no memory.
     pub fn state(&self) -> SessionState
-        ensures { result ≡ state_of self.now }
+        ensures { result ≡ session_state self.now }
     {
         match &self.ended {
             None => SessionState::Open,
@@ -209,10 +209,10 @@ impl Session {
     /// what it held. Nothing has ended the session, and the room is for the header's width. It
     /// takes no memory.
     pub fn missing(&self, room: &mut CellRoom)
-        requires open { state_of self.now ≡ state.Open }
+        requires open { session_state self.now ≡ state.Open }
         requires room { room.old.k ≡ self.now.header.k }
         ensures width { room.new.k ≡ room.old.k }
-        ensures left { (ms : List Message) → StandsFor self.now ms →
+        ensures left { (ms : List Message) → SessionStands self.now ms →
             AreLeft self.now.header ms room.new }
     {
         fill_unknown(&self.board, room);
@@ -221,9 +221,9 @@ impl Session {
     /// Ends the session with the answer over everything that was fed. It takes no memory: a square has that of its
     /// extension, of which the rest is given back.
     pub fn finish(self) -> Verdict
-        ensures verdict { (ms : List Message) → StandsFor self ms →
-            IsVerdict self.header ms (parts_of result) }
-        ensures state { IsOfState (state_of self) result }
+        ensures verdict { (ms : List Message) → SessionStands self ms →
+            IsVerdict self.header ms (verdict_parts result) }
+        ensures state { IsOfState (session_state self) result }
     {
         let Session {
             header,

@@ -15,7 +15,7 @@ use Rattle.proto_fields.specs.Varints.{varint}
 use Rattle.proto_fields.proofs.Varint.Bytes.{length-varint-low, length-varint-high}
 use Rattle.square_layout.specs.Layout.{share_count_of}
 use Rattle.sampling.specs.Words.{key_word}
-use Rattle.sampling.specs.Generated.{word_count, word_bytes, bytes_at, unit_len, unit_at, name_with, blob_len, blob_at, after_blob, blobs_at}
+use Rattle.sampling.specs.Generated.{word_count, word_bytes, made_bytes, unit_len, made_unit, name_with, blob_len, made_blob, after_blob, blobs_at}
 use Rattle.sampling.proofs.WordLemmas.{length-word_bytes}
 
 -- a blob of a block of width k: its namespace is one of a blob, it has bytes, and at most k shares
@@ -25,7 +25,7 @@ pub record Fits (k : ℕ) (blob : NamedBytes) : Type 0 where
   pub few : share_count_of blob ≤ k
 
 -- there are so many bytes as are made
-pub length-bytes_at : (key : List ℕ) (place len : ℕ) → length (bytes_at key place len) ≡ len
+pub length-bytes_at : (key : List ℕ) (place len : ℕ) → length (made_bytes key place len) ≡ len
 length-bytes_at key place len =
     length-take-le len (word_bytes key place (word_count len))
     (omega (arith, length-word_bytes key (word_count len) place))
@@ -57,17 +57,17 @@ len-ge k key place =
     mod-lt (key_word key (place + 2)) (omega arith) in omega (arith, less)
 
 -- a blob that is made fits
-blob_fits : (k : ℕ) (key : List ℕ) (place : ℕ) → 0 < k → Fits k (blob_at k key place)
+blob_fits : (k : ℕ) (key : List ℕ) (place : ℕ) → 0 < k → Fits k (made_blob k key place)
 blob_fits k key place some =
-    let long : length (bytes_at key (place + 3) (blob_len k key place)) ≡ blob_len k key place =
+    let long : length (made_bytes key (place + 3) (blob_len k key place)) ≡ blob_len k key place =
     length-bytes_at key (place + 3) (blob_len k key place) in
     let most : key_word key (place + 1) % k < k = mod-lt (key_word key (place + 1)) some in record {
       named = name_passes (key_word key place % 16);
       some = omega (arith, long, len-ge k key place);
       few =
-          let shares : share_count (length (bytes_at key (place + 3) (blob_len k key place))) false ≤ 1 + key_word key
+          let shares : share_count (length (made_bytes key (place + 3) (blob_len k key place))) false ≤ 1 + key_word key
           (place + 1) % k =
-          few_shares (length (bytes_at key (place + 3) (blob_len k key place))) (key_word key (place + 1) % k)
+          few_shares (length (made_bytes key (place + 3) (blob_len k key place))) (key_word key (place + 1) % k)
           (omega (arith, long, len-le k key place)) in
           omega (arith, shares, most);
     }
@@ -112,7 +112,7 @@ unit_share unit h =
     one_share (length (units_text (unit ∷ []))) (omega (arith, long, short_varint (length unit) h))
 
 -- a unit that is made takes one
-pub made_unit_share : (key : List ℕ) (place : ℕ) → unit_share_count (unit_at key place ∷ []) ≡ 1
+pub made_unit_share : (key : List ℕ) (place : ℕ) → unit_share_count (made_unit key place ∷ []) ≡ 1
 made_unit_share key place =
     let less : key_word key place % 400 < 400 = mod-lt (key_word key place) (omega arith) in
-    unit_share (unit_at key place) (omega (arith, length-bytes_at key (place + 1) (unit_len key place), less))
+    unit_share (made_unit key place) (omega (arith, length-bytes_at key (place + 1) (unit_len key place), less))

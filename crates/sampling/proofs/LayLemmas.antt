@@ -21,11 +21,11 @@ use Rattle.square_layout.specs.declared.laying.LayError.{LayError}
 use Rattle.square_layout.specs.declared.laying.LayError.TheVariants.{BadBlob, EmptyBlob, BadWidth, TooLarge, WidthTooSmall}
 use Rattle.square_layout.specs.Blocks.{BlockParts}
 use Rattle.square_layout.specs.Layout.{put_in, in_order, share_count_of, start_after, end_of, compact_end, needed}
-use Rattle.square_layout.specs.Refusals.{bad_blob, empty_blob, size_refusal, width_refusal, max_shares, max_count, layout_refusal}
+use Rattle.square_layout.specs.Refusals.{bad_blob, empty_blob, size_refusal, width_refusal, max_shares, most_told, layout_refusal}
 use Rattle.square_layout.proofs.PlaceLemmas.{start_after-near}
 use Rattle.square_layout.proofs.LaidLemmas.{square_fits}
 use Rattle.square_layout.proofs.BlobOrderLemmas.{All-in_order}
-use Rattle.sampling.specs.Generated.{blobs_at, unit_at, units_at, after_units, blob_count, block_of}
+use Rattle.sampling.specs.Generated.{blobs_at, made_unit, units_at, after_units, blob_count, made_block}
 use Rattle.sampling.proofs.FittingLemmas.{Fits, blobs_fit, length-blobs_at, narrow, made_unit_share}
 
 -- ---- blobs pass
@@ -117,7 +117,7 @@ compact_of k = if nat_le 2 k then 1 else 0
 
 -- the units of one kind take so many
 units_share : (k : ℕ) (key : List ℕ) (place : ℕ) → unit_share_count (units_at k key place) ≡ compact_of k
-units_share k key place = elim (nat_le 2 k) as (λ b. unit_share_count (if b then unit_at key place ∷ [] else []) ≡ (if b then 1 else 0)) [
+units_share k key place = elim (nat_le 2 k) as (λ b. unit_share_count (if b then made_unit key place ∷ [] else []) ≡ (if b then 1 else 0)) [
   | true ↦ made_unit_share key place
   | false ↦ refl
 ]
@@ -148,7 +148,7 @@ size-none k count width h =
     let square : k * k ≤ max_shares = square_fits k width in
     let small : nat_lt max_shares count ≡ false = grind (arith, nat_tests) in
     let holds : nat_lt (k * k) count ≡ false = grind (arith, nat_tests) in
-    ap (λ (b : Bool). if b then Some (TooLarge (min count max_count)) else width_refusal count k) small
+    ap (λ (b : Bool). if b then Some (TooLarge (min count most_told)) else width_refusal count k) small
     ∙ ap (λ (b : Bool). if b then Some (WidthTooSmall count) else (if is_width k then None else Some BadWidth)) holds
     ∙ ap (λ (b : Bool). if b then None else Some BadWidth) width
 
@@ -164,35 +164,35 @@ square_some : (k : ℕ) → 1 ≤ k → 1 ≤ k * k
 square_some k some = mul-le 1 1 k k some some
 
 -- a block that is made is laid out
-pub made_lays : (k : ℕ) (key : List ℕ) → is_width k ≡ true → layout_refusal (block_of k key) ≡ None
+pub made_lays : (k : ℕ) (key : List ℕ) → is_width k ≡ true → layout_refusal (made_block k key) ≡ None
 made_lays k key width =
     let some : 1 ≤ k = is_width-pos k width in
     let from : ℕ = after_units k key (after_units k key 0) in
     let blobs : List NamedBytes = blobs_at k key from (blob_count k) in
     let all : AllByRecursion (Fits k) blobs = blobs_fit k key (blob_count k) from some in
-    let compact : compact_end (block_of k key) ≡ compact_of k + compact_of k =
+    let compact : compact_end (made_block k key) ≡ compact_of k + compact_of k =
     ap₂ (λ (m n : ℕ). m + n) (units_share k key 0) (units_share k key (after_units k key 0)) in
     let long : length (in_order blobs) ≡ blob_count k =
     length-in_order blobs ∙ length-blobs_at k key (blob_count k) from in
-    let near : end_of (compact_end (block_of k key)) (in_order blobs) ≤ compact_end (block_of k key) + length
+    let near : end_of (compact_end (made_block k key)) (in_order blobs) ≤ compact_end (made_block k key) + length
     (in_order blobs) * (k + gap_of k) =
-    end_near k (in_order blobs) (compact_end (block_of k key)) width (All-in_order (Fits k) blobs all) in
+    end_near k (in_order blobs) (compact_end (made_block k key)) width (All-in_order (Fits k) blobs all) in
     let width_of : length (in_order blobs) * (k + gap_of k) ≡ blob_count k * (k + gap_of k) =
     ap (λ (n : ℕ). n * (k + gap_of k)) long in
-    let end : end_of (compact_end (block_of k key)) (in_order blobs) ≤ k * k =
+    let end : end_of (compact_end (made_block k key)) (in_order blobs) ≤ k * k =
     omega (arith, near, width_of, compact, most_fits k width) in
     ap (λ (o : Option LayError). option_or (option_or o (empty_blob 0 blobs))
-    (size_refusal (Some k) (needed (block_of k key)))) (bad-none k blobs 0 all)
-    ∙ ap (λ (o : Option LayError). option_or o (size_refusal (Some k) (needed (block_of k key))))
+    (size_refusal (Some k) (needed (made_block k key)))) (bad-none k blobs 0 all)
+    ∙ ap (λ (o : Option LayError). option_or o (size_refusal (Some k) (needed (made_block k key))))
     (empty-none k blobs 0 all)
-    ∙ size-none k (needed (block_of k key)) width (needed_fits (end_of (compact_end (block_of k key)) (in_order blobs)) (k * k) end (square_some k some))
+    ∙ size-none k (needed (made_block k key)) width (needed_fits (end_of (compact_end (made_block k key)) (in_order blobs)) (k * k) end (square_some k some))
 
 -- the parts of a block that is made
 pub block_is : (k : ℕ) (key : List ℕ) (units pay_units : List (List ℕ)) (blobs : List NamedBytes)
     → units ≡ units_at k key 0
     → pay_units ≡ units_at k key (after_units k key 0)
     → blobs ≡ blobs_at k key (after_units k key (after_units k key 0)) (blob_count k)
-    → (let block : BlockParts = record { units = units; pay_units = pay_units; blobs = blobs; width = Some k } in block ≡ block_of k key)
+    → (let block : BlockParts = record { units = units; pay_units = pay_units; blobs = blobs; width = Some k } in block ≡ made_block k key)
 block_is k key units pay_units blobs is_units is_pay_units is_blobs =
     ap₂ (λ (u p : List (List ℕ)). record { units = u; pay_units = p; blobs = blobs; width = Some k }) is_units is_pay_units
     ∙ ap (λ (b : List NamedBytes). record {

@@ -9,7 +9,7 @@ use Rattle.namespace_id.specs.declared.cells.Cell.{Cell}
 use Rattle.namespace_id.specs.Cells.{cell_numbered, all_cells}
 use Rattle.namespace_id.specs.Lists.{ascending}
 use Rattle.namespace_id.proofs.AscendingLemmas.{length-ascending, get_or-ascending}
-use Rattle.sampling.specs.Taken.{AreTaken, passed, whole_place, with_taken, cells_left}
+use Rattle.sampling.specs.Taken.{AscendFrom, passed, whole_place, with_taken, cells_left}
 
 -- ---- one taken place
 
@@ -65,7 +65,7 @@ pub length-with : (taken : List ℕ) (place : ℕ) → length (with_taken taken 
 length-with taken place = length-insert taken (passed taken place) (whole_place taken place) (passed-le taken place)
 
 -- they still ascend
-pub taken_with : (taken : List ℕ) (least place : ℕ) → least ≤ place → AreTaken least taken → AreTaken least (with_taken taken place)
+pub taken_with : (taken : List ℕ) (least place : ℕ) → least ≤ place → AscendFrom least taken → AscendFrom least (with_taken taken place)
 unfolding passed
 taken_with [] least place h are = (omega (arith, h), tt)
 taken_with (first ∷ taken) least place h are = elim (cases_lt place first) [
@@ -109,14 +109,14 @@ whole_behind (first ∷ taken) place other h = elim (cases_lt place first) [
 -- ---- a search
 
 -- each place has as many above the least as come before it
-taken-ge : (taken : List ℕ) (least i : ℕ) → AreTaken least taken → i < length taken → least + i ≤ get_or taken i 0
+taken-ge : (taken : List ℕ) (least i : ℕ) → AscendFrom least taken → i < length taken → least + i ≤ get_or taken i 0
 taken-ge [] least i are h = absurd (omega (arith, h))
 taken-ge (first ∷ taken) least zero are h = omega (arith, are.0)
 taken-ge (first ∷ taken) least (suc i) are h =
     omega (arith, are.0, taken-ge taken (suc first) i are.1 (omega (arith, h)))
 
 -- where a place would be moved beyond a taken one, that one and those before it are passed
-pub passed_beyond : (taken : List ℕ) (least place i : ℕ) → AreTaken least taken → i < length taken → get_or taken i 0 ≤ place + i
+pub passed_beyond : (taken : List ℕ) (least place i : ℕ) → AscendFrom least taken → i < length taken → get_or taken i 0 ≤ place + i
     → i + 1 ≤ passed taken place
 unfolding passed
 passed_beyond [] least place i are h at = absurd (omega (arith, h))

@@ -6,9 +6,9 @@ use Rattle.namespace_id.specs.Cells.{cell_numbered}
 use Rattle.namespace_id.specs.Lists.{ascending}
 
 -- the places ascend, and none is below the least
-abbrev pub AreTaken : ℕ → List ℕ → Type 0
-AreTaken least [] = ⊤
-AreTaken least (first ∷ taken) = (least ≤ first) × AreTaken (suc first) taken
+abbrev pub AscendFrom : ℕ → List ℕ → Type 0
+AscendFrom least [] = ⊤
+AscendFrom least (first ∷ taken) = (least ≤ first) × AscendFrom (suc first) taken
 
 -- how many taken places come before what stands at a place of the rest: each that is passed moves it on
 -- by one

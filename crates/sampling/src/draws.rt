@@ -5,7 +5,7 @@ ghost use Rattle.std.specs.List.{list_all, remove};
 ghost use Rattle.namespace_id.specs.Cells.{is_width, is_in_square, cell_numbered};
 ghost use Rattle.sampling.specs.Words.{words_at, key_number};
 ghost use Rattle.sampling.specs.Draws.{draw_limit, draw_place, drawn_cells, AreApart};
-ghost use Rattle.sampling.specs.Taken.{AreTaken, cells_left};
+ghost use Rattle.sampling.specs.Taken.{AscendFrom, cells_left};
 ghost use Rattle.sampling.specs.declared.draws.DrawError.TheVariants.{TooMany};
 
 use crate::taken::take_out;
@@ -48,7 +48,7 @@ fn draw(words: &mut ChaCha20Rng, in_row: u16, taken: &mut Vec<u32>) -> Result<Ce
     requires words { words.old.word_pos + 2 < 2 ^ 68 }
     requires bound { in_row < 2 ^ 15 }
     requires some { length taken.old.items < in_row * in_row }
-    requires ascend { AreTaken 0 taken.old.items }
+    requires ascend { AscendFrom 0 taken.old.items }
     ensures cell { (key : List ℕ) (i : ℕ) → words.old ≡ words_at key (2 * i) →
         IfOk result (λ cell. cell ≡ get_or (cells_left in_row taken.old.items)
         (draw_place key i (cells_left in_row taken.old.items)) (cell_numbered 1 0)) }
@@ -58,7 +58,7 @@ fn draw(words: &mut ChaCha20Rng, in_row: u16, taken: &mut Vec<u32>) -> Result<Ce
     ensures words { (key : List ℕ) (i : ℕ) → words.old ≡ words_at key (2 * i) →
         OnOk result (words.new ≡ words_at key (2 * (i + 1))) }
     ensures one { OnOk result (length taken.new.items ≡ length taken.old.items + 1) }
-    ensures ascend { OnOk result (AreTaken 0 taken.new.items) }
+    ensures ascend { OnOk result (AscendFrom 0 taken.new.items) }
 {
     let left = u32::from(in_row) * u32::from(in_row) - taken.len() as u32;
     let place = next_place(words, left);

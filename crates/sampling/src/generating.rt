@@ -3,10 +3,10 @@
 ghost use Rattle.std.specs.Prelude.{◌≡◌, ◌+◌, ◌<◌, ◌≤◌, ◌^◌, ℕ, List, IsTrue, IfOk, OnOk, None};
 ghost use Rattle.namespace_id.specs.Cells.{is_width};
 ghost use Rattle.namespace_id.specs.Sizes.{greatest_width};
-ghost use Rattle.square_layout.specs.Layout.{square_of};
+ghost use Rattle.square_layout.specs.Layout.{block_square};
 ghost use Rattle.square_layout.specs.Refusals.{layout_refusal};
 ghost use Rattle.sampling.specs.Words.{words_at, words_after};
-ghost use Rattle.sampling.specs.Generated.{number_key, word_count, bytes_at, unit_at, after_unit, units_at, after_units, name_with, blob_at, after_blob, blobs_at, blob_count, drawn_block};
+ghost use Rattle.sampling.specs.Generated.{number_key, word_count, made_bytes, made_unit, after_unit, units_at, after_units, name_with, made_blob, after_blob, blobs_at, blob_count, drawn_block};
 
 use crate::words::{next_word, words_of};
 use namespace_id::{NAMESPACE_SIZE, Namespace, NoMemory, write_at};
@@ -32,7 +32,7 @@ fn bytes(alloc: Global, words: &mut ChaCha20Rng, len: usize) -> Result<Vec<u8>, 
     requires len { len < 2 ^ 18 }
     requires words { words.old.word_pos + 2 ^ 16 < 2 ^ 68 }
     ensures value { (key : List ℕ) (place : ℕ) → words.old ≡ words_at key place →
-        IfOk result (λ bytes. bytes.items ≡ bytes_at key place len) }
+        IfOk result (λ bytes. bytes.items ≡ made_bytes key place len) }
     ensures after { OnOk result (words.new ≡ words_after words.old (word_count len)) }
 {
     let count = len.div_ceil(WORD_SIZE);
@@ -52,7 +52,7 @@ fn bytes(alloc: Global, words: &mut ChaCha20Rng, len: usize) -> Result<Vec<u8>, 
 fn unit(alloc: Global, words: &mut ChaCha20Rng) -> Result<Unit, NoMemory>
     requires { words.old.word_pos + 2 ^ 17 < 2 ^ 68 }
     ensures value { (key : List ℕ) (place : ℕ) → words.old ≡ words_at key place →
-        IfOk result (λ unit. unit ≡ unit_at key place) }
+        IfOk result (λ unit. unit ≡ made_unit key place) }
     ensures after { (key : List ℕ) (place : ℕ) → words.old ≡ words_at key place →
         OnOk result (words.new ≡ words_at key (after_unit key place)) }
     ensures near { OnOk result (words.new.word_pos ≤ words.old.word_pos + 2 ^ 16) }
@@ -98,7 +98,7 @@ fn blob(alloc: Global, words: &mut ChaCha20Rng, k: u16) -> Result<Blob, NoMemory
     requires most { k ≤ greatest_width }
     requires words { words.old.word_pos + 2 ^ 17 < 2 ^ 68 }
     ensures value { (key : List ℕ) (place : ℕ) → words.old ≡ words_at key place →
-        IfOk result (λ blob. blob ≡ blob_at k key place) }
+        IfOk result (λ blob. blob ≡ made_blob k key place) }
     ensures after { (key : List ℕ) (place : ℕ) → words.old ≡ words_at key place →
         OnOk result (words.new ≡ words_at key (after_blob k key place)) }
     ensures near { OnOk result (words.new.word_pos ≤ words.old.word_pos + 2 ^ 16) }
@@ -148,7 +148,7 @@ pub fn block(alloc: Global, number: u64, k: u16) -> Result<Block, NoMemory>
 
     // It is laid out, and its square has that width.
     ensures lays { IfOk result (λ block. layout_refusal block ≡ None) }
-    ensures k { IfOk result (λ block. (square_of block).k ≡ k) }
+    ensures k { IfOk result (λ block. (block_square block).k ≡ k) }
 {
     let mut words = words_of(&number_key(number));
     Ok(Block {

@@ -2,13 +2,13 @@
 //! they tell where in the whole list stands what is left.
 
 ghost use Rattle.std.specs.Prelude.{◌≡◌, ◌<◌, ◌≤◌, ◌+◌, ◌^◌, length, IfOk, OnOk};
-ghost use Rattle.sampling.specs.Taken.{AreTaken, passed, whole_place, with_taken};
+ghost use Rattle.sampling.specs.Taken.{AscendFrom, passed, whole_place, with_taken};
 
 use namespace_id::NoMemory;
 
 /// How many taken places come before what stands at a place of the rest. It is looked for by halves.
 fn passed(taken: &[u32], place: u32) -> usize
-    requires ascend { AreTaken 0 taken.now }
+    requires ascend { AscendFrom 0 taken.now }
     requires bound { place + length taken.now < 2 ^ 32 }
     ensures value { result ≡ passed taken.now place }
     ensures bound { result ≤ length taken.now }
@@ -28,13 +28,13 @@ fn passed(taken: &[u32], place: u32) -> usize
 
 /// Takes out what stands at a place of the rest, and says its place in the whole list.
 pub(crate) fn take_out(taken: &mut Vec<u32>, place: u32) -> Result<u32, NoMemory>
-    requires ascend { AreTaken 0 taken.old.items }
+    requires ascend { AscendFrom 0 taken.old.items }
     requires bound { place + length taken.old.items < 2 ^ 32 }
     ensures place { IfOk result (λ whole. whole ≡ whole_place taken.old.items place) }
     ensures bound { IfOk result (λ whole. whole ≤ place + length taken.old.items) }
     ensures taken { OnOk result (taken.new.items ≡ with_taken taken.old.items place) }
     ensures one { OnOk result (length taken.new.items ≡ length taken.old.items + 1) }
-    ensures ascend { OnOk result (AreTaken 0 taken.new.items) }
+    ensures ascend { OnOk result (AscendFrom 0 taken.new.items) }
 {
     let before = passed(taken, place);
     let whole = place + before as u32;

@@ -6,13 +6,13 @@ use Rattle.share_split.specs.declared.joining.JoinError.{JoinError}
 use Rattle.share_split.specs.declared.joining.JoinError.TheVariants.{Short}
 use Rattle.share_split.specs.declared.walking.Form.{Form}
 use Rattle.share_split.specs.declared.walking.Form.TheVariants.{Blobs, Units}
-use Rattle.share_split.specs.Walks.{Sequence, is_complete, blob_refusal, unit_refusal, taken_by, reserved_in}
+use Rattle.share_split.specs.Walks.{Sequence, is_complete, blob_share_refusal, unit_refusal, sequence_after, reserved_in}
 use Rattle.share_split.specs.Units.{starts_from, reserved_of}
 use Rattle.share_split.specs.Steps.{open_after}
 
 -- why share i of this form is refused, where a sequence may be open before it
 abbrev pub refusal_of : Form → ℕ → Option Sequence → Share → Option JoinError
-refusal_of Blobs i so_far share = blob_refusal i so_far share
+refusal_of Blobs i so_far share = blob_share_refusal i so_far share
 refusal_of Units i so_far share = unit_refusal i so_far share
 
 -- what stands open behind a sequence as far as it was read: no blob that is complete; the one sequence of units always
@@ -25,7 +25,7 @@ pub data AreRead (form : Form) : List Share → Option Sequence → Type 0 where
   start : AreRead form [] None
   next : (before : List Share) (so_far : Option Sequence) (share : Share) → AreRead form before so_far
       → refusal_of form (length before) so_far share ≡ None
-      → AreRead form (before ++ share ∷ []) (open_behind form (taken_by form (length before) so_far share))
+      → AreRead form (before ++ share ∷ []) (open_behind form (sequence_after form (length before) so_far share))
 
 -- the first share that is refused, and why; its number is how many stand before it
 pub record IsFirstRefused (form : Form) (shares : List Share) (why : JoinError) : Type 0 where

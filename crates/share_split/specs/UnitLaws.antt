@@ -47,14 +47,14 @@ VarintIsShortest = (n : ℕ) (bytes : List ℕ) → n < 2 ^ 64 → bytes ≢ [] 
     → length (varint n) ≤ length bytes
 
 -- whether this place of the text is in the content of share i
-abbrev pub is_inside : ℕ → ℕ → Bool
-is_inside i at = nat_le (content_start i) at && nat_lt at (content_start (suc i))
+abbrev pub is_in_content : ℕ → ℕ → Bool
+is_in_content i at = nat_le (content_start i) at && nat_lt at (content_start (suc i))
 
 -- the least of some starts that are in the content of share i
 pub record IsFirstInside (i : ℕ) (starts : List ℕ) (start : ℕ) : Type 0 where
-  pub inside : is_inside i start ≡ true
+  pub inside : is_in_content i start ≡ true
   pub among : list_any (λ other. other == start) starts ≡ true
-  pub least : AllByRecursion (λ other. is_inside i other ≡ true → start ≤ other) starts
+  pub least : AllByRecursion (λ other. is_in_content i other ≡ true → start ≤ other) starts
 
 -- the reserved bytes of a share state the place in it of the first unit that starts in its content
 abbrev pub ReservedIsFirst : Type 0
@@ -65,5 +65,5 @@ ReservedIsFirst = (i at start : ℕ) (units : List (List ℕ))
 -- and 0 where no unit starts in it
 abbrev pub ReservedIsNone : Type 0
 ReservedIsNone = (i at : ℕ) (units : List (List ℕ))
-    → AllByRecursion (λ start. is_inside i start ≡ false) (starts_from at units)
+    → AllByRecursion (λ start. is_in_content i start ≡ false) (starts_from at units)
     → reserved_of i (starts_from at units) ≡ 0

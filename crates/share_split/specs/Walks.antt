@@ -32,8 +32,8 @@ abbrev pub size_in : Share → ℕ
 size_in share = from_be_bytes w32 (take 4 (drop length_place share.0))
 
 -- the bytes after the namespace, the info byte and, in a first share, the length
-abbrev pub fields_in : Share → List ℕ
-fields_in share = drop (if is_start share then length_place + 4 else length_place) share.0
+abbrev pub share_fields : Share → List ℕ
+share_fields share = drop (if is_start share then length_place + 4 else length_place) share.0
 
 -- whether it is the first share of a signed blob; a share of version 1 that begins a sequence of length 0 is
 -- padding, and has no signer
@@ -42,7 +42,7 @@ is_signed share = is_start share && version_in share == 1 && not (size_in share 
 
 -- the signer of the blob that a first share begins, if there is one
 abbrev pub signer_in : Share → Option (List ℕ)
-signer_in share = if is_signed share then Some (take signer_size (fields_in share)) else None
+signer_in share = if is_signed share then Some (take signer_size (share_fields share)) else None
 
 -- how many bytes come before the content: the signer in the shares of blobs, four reserved bytes in compact shares
 abbrev pub bytes_before : Form → Share → ℕ
@@ -51,11 +51,11 @@ bytes_before Units share = 4
 
 -- the content of a share of this form
 abbrev pub content_in : Form → Share → List ℕ
-content_in form share = drop (bytes_before form share) (fields_in share)
+content_in form share = drop (bytes_before form share) (share_fields share)
 
 -- the number that the reserved bytes of a compact share state
 abbrev pub reserved_in : Share → ℕ
-reserved_in share = from_be_bytes w32 (take 4 (fields_in share))
+reserved_in share = from_be_bytes w32 (take 4 (share_fields share))
 
 -- ---- sequences
 
@@ -139,28 +139,28 @@ with_blob s (Ok blobs) =
     record { namespace = s.name; bytes = s.content; signer = s.signer } ∷ blobs)
 
 -- what is checked of share i, and what is read of its sequence then, where one may be open
-abbrev pub blob_refusal : ℕ → Option Sequence → Share → Option JoinError
-blob_refusal i None share = first_refusal Blobs i share
-blob_refusal i (Some s) share = later_refusal Blobs i s share
+abbrev pub blob_share_refusal : ℕ → Option Sequence → Share → Option JoinError
+blob_share_refusal i None share = first_refusal Blobs i share
+blob_share_refusal i (Some s) share = later_refusal Blobs i s share
 
 -- the sequence after share i, where one may be open
-abbrev pub taken_by : Form → ℕ → Option Sequence → Share → Sequence
-taken_by form i None share = begun_by form i share
-taken_by form i (Some s) share = extended_by form s share
+abbrev pub sequence_after : Form → ℕ → Option Sequence → Share → Sequence
+sequence_after form i None share = begun_by form i share
+sequence_after form i (Some s) share = extended_by form s share
 
 -- the blobs that shares are, from share i on, where a sequence may be open
 unfoldable pub blobs_from : ℕ → Option Sequence → List Share → Result (List NamedBytes) JoinError
 blobs_from i None [] = Ok []
 blobs_from i (Some s) [] = Err (Short s.first)
 blobs_from i so_far (share ∷ shares) =
-    option_map_or Err (blob_refusal i so_far share)
-    (if is_complete (taken_by Blobs i so_far share)
-    then with_blob (taken_by Blobs i so_far share) (blobs_from (suc i) None shares)
-    else blobs_from (suc i) (Some (taken_by Blobs i so_far share)) shares)
+    option_map_or Err (blob_share_refusal i so_far share)
+    (if is_complete (sequence_after Blobs i so_far share)
+    then with_blob (sequence_after Blobs i so_far share) (blobs_from (suc i) None shares)
+    else blobs_from (suc i) (Some (sequence_after Blobs i so_far share)) shares)
 
 -- the blobs that shares are, or the first check that fails
-abbrev pub blobs_of : List Share → Result (List NamedBytes) JoinError
-blobs_of shares = blobs_from 0 None shares
+abbrev pub blobs_joined : List Share → Result (List NamedBytes) JoinError
+blobs_joined shares = blobs_from 0 None shares
 
 -- ---- the one sequence of units
 
@@ -176,7 +176,7 @@ sequence_from i None [] = Ok None
 sequence_from i (Some s) [] = if is_complete s then Ok (Some s) else Err (Short s.first)
 sequence_from i so_far (share ∷ shares) =
     option_map_or Err (unit_refusal i so_far share)
-    (sequence_from (suc i) (Some (taken_by Units i so_far share)) shares)
+    (sequence_from (suc i) (Some (sequence_after Units i so_far share)) shares)
 
 -- ---- the units in its content
 
@@ -189,8 +189,8 @@ unit_of all (Some length_read) =
     else None
 
 -- the unit at the front of a text, and how many bytes it takes with its length
-abbrev pub unit_at : List ℕ → Option (List ℕ × ℕ)
-unit_at bytes = unit_of (length bytes) (varint_in 5 bytes)
+abbrev pub text_unit : List ℕ → Option (List ℕ × ℕ)
+text_unit bytes = unit_of (length bytes) (varint_in 5 bytes)
 
 -- a unit in front of those that follow it
 abbrev pub with_unit : List ℕ → Result (List (List ℕ)) ℕ → Result (List (List ℕ)) ℕ
@@ -204,7 +204,7 @@ units_from skip at [] = Ok []
 units_from (suc skip) at (byte ∷ rest) = units_from skip (suc at) rest
 units_from zero at (byte ∷ rest) =
     option_map_or (λ unit. with_unit unit.0 (units_from (unit.1 - 1) (suc at) rest))
-    (unit_at (byte ∷ rest)) (Err at)
+    (text_unit (byte ∷ rest)) (Err at)
 
 -- which share has the byte at this place of the text
 abbrev pub share_with : ℕ → ℕ

@@ -3,7 +3,7 @@
 ghost use Rattle.std.specs.Prelude.{◌≡◌, ◌≤◌, ◌+◌, length, take};
 ghost use Rattle.std.specs.Int.{w32, from_be_bytes};
 ghost use Rattle.share_split.specs.Blobs.{later_content};
-ghost use Rattle.share_split.specs.Walks.{version_in, is_start, size_in, fields_in, is_signed, signer_in};
+ghost use Rattle.share_split.specs.Walks.{version_in, is_start, size_in, share_fields, is_signed, signer_in};
 ghost use Rattle.share_split.specs.Walks.{bytes_before, content_in, reserved_in, is_filled};
 
 use crate::blobs::split_within;
@@ -50,7 +50,7 @@ pub(crate) fn size(share: &Share) -> u32
 
 /// The bytes behind the info byte and, in a first share, the length of the sequence.
 fn fields(share: &Share) -> &[u8]
-    ensures value { result.now ≡ fields_in share.now }
+    ensures value { result.now ≡ share_fields share.now }
     ensures some { later_content ≤ length result.now + 4 }
 {
     if is_start(share) {

@@ -5,7 +5,7 @@ ghost use Rattle.namespace_id.specs.declared.shares.Share.{Share as AShare};
 ghost use Rattle.namespace_id.specs.Shares.{AreShares};
 ghost use Rattle.share_split.specs.declared.joining.JoinError.TheVariants.{NoMemory};
 ghost use Rattle.share_split.specs.Blobs.{NamedBytes};
-ghost use Rattle.share_split.specs.Walks.{Joins, blobs_of, units_of, sequence_from};
+ghost use Rattle.share_split.specs.Walks.{Joins, blobs_joined, units_of, sequence_from};
 ghost use Rattle.share_split.specs.Joined.{AreBlobs, AreUnits};
 ghost use Rattle.share_split.specs.Steps.{open_after, blobs_after};
 
@@ -95,7 +95,7 @@ fn closed(sequence: Open, blobs: &mut Vec<Blob>) -> Result<Option<Open>, JoinErr
 ///
 /// Celestia specifications, "Shares"; docs/RULES.md, "Reading shares".
 pub fn join_blobs(alloc: Global, shares: &[Share]) -> Result<Vec<Blob>, JoinError>
-    ensures read { Joins (λ blobs. blobs.items) result (blobs_of shares.now) }
+    ensures read { Joins (λ blobs. blobs.items) result (blobs_joined shares.now) }
     ensures blobs { IfOk result (λ blobs. AreBlobs shares.now blobs.items) }
 {
     shares_law(shares);
@@ -162,7 +162,7 @@ pub fn join_units(alloc: Global, shares: &[Share]) -> Result<Vec<Unit>, JoinErro
 /// Shares are read as blobs, or as units, exactly where they are their shares.
 pub fn join_laws()
     ensures blobs { (shares : List AShare) (blobs : List NamedBytes) → AreShares shares →
-        (blobs_of shares ≡ Ok blobs) ↔ AreBlobs shares blobs }
+        (blobs_joined shares ≡ Ok blobs) ↔ AreBlobs shares blobs }
     ensures units { (shares : List AShare) (units : List (List ℕ)) → AreShares shares →
         (units_of shares ≡ Ok units) ↔ AreUnits shares units }
 {}

@@ -11,7 +11,7 @@ ghost use Rattle.share_split.specs.declared.joining.JoinError.{JoinError};
 ghost use Rattle.share_split.specs.declared.joining.JoinError.TheVariants.{NoStart, Short, BadVersion, NonZeroFill, BadVarint, BadReserved, MixedNamespace};
 ghost use Rattle.share_split.specs.declared.walking.Form.{Form};
 ghost use Rattle.share_split.specs.declared.walking.Form.TheVariants.{Blobs, Units};
-ghost use Rattle.share_split.specs.Walks.{version_in, is_start, size_in, Sequence, missing, is_complete, is_version, is_filled, first_refusal, later_refusal, unit_refusal, blobs_of, units_of, sequence_from, units_from, share_with};
+ghost use Rattle.share_split.specs.Walks.{version_in, is_start, size_in, Sequence, missing, is_complete, is_version, is_filled, first_refusal, later_refusal, unit_refusal, blobs_joined, units_of, sequence_from, units_from, share_with};
 ghost use Rattle.share_split.specs.JoinRefusals.{IsRefusedFor, IsFirstMisstated};
 ghost use Rattle.share_split.specs.BlobLaws.{BlobSharesAreCounted, BlobSharesAreShares, PaddingIsShare, FewSharesHoldASequence};
 
@@ -102,7 +102,7 @@ pub fn refusal_laws()
     // The share that is named: the first one that is refused, numbered from 0; or the first share
     // of a sequence that is open where the list ends.
     ensures blobs { (shares : List AShare) (why : JoinError) →
-        (blobs_of shares ≡ Err why) ↔ IsRefusedFor Blobs shares why }
+        (blobs_joined shares ≡ Err why) ↔ IsRefusedFor Blobs shares why }
     ensures sequence { (shares : List AShare) (why : JoinError) →
         (sequence_from 0 None shares ≡ Err why) ↔ IsRefusedFor Units shares why }
     ensures units { (shares : List AShare) (why : JoinError) → IsRefusedFor Units shares why →

@@ -2,7 +2,7 @@
 
 ghost use Rattle.std.specs.Prelude.{◌≡◌, ◌+◌, ◌<◌, ◌≤◌, ◌*◌, ◌^◌, ◌∷◌, [], ◌++◌, length, Ok, IfOk, IfSome, OnOk};
 ghost use Rattle.share_split.specs.Units.{starts_from, starts_on, first_place};
-ghost use Rattle.share_split.specs.Walks.{Joins, unit_at, units_from, bad_reserved};
+ghost use Rattle.share_split.specs.Walks.{Joins, text_unit, units_from, bad_reserved};
 ghost use Rattle.namespace_id.specs.Answers.{Gives};
 ghost use Rattle.proto_fields.specs.Varints.{varint_in};
 ghost use Rattle.share_split.specs.Steps.{units_placed};
@@ -49,7 +49,7 @@ fn varint_in(most: u8, bytes: &[u8]) -> Option<(u64, &[u8])>
 
 /// The unit at the front, and how many bytes it takes with its length.
 fn unit_at(text: &[u8]) -> Option<(&[u8], usize)>
-    ensures value { Gives (λ x. (x.0.now, x.1)) result (unit_at text.now) }
+    ensures value { Gives (λ x. (x.0.now, x.1)) result (text_unit text.now) }
     ensures some { IfSome result (λ x. 1 ≤ x.1) }
     ensures within { IfSome result (λ x. x.1 ≤ length text.now) }
 {

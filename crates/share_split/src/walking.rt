@@ -1,7 +1,7 @@
 //! Sequences of shares, read share by share.
 
 ghost use Rattle.std.specs.Prelude.{◌≡◌, ◌≤◌, ◌++◌, take, OnOk};
-ghost use Rattle.share_split.specs.Walks.{content_in, is_version, first_refusal, surplus_refusal, blob_refusal, taken_by, unit_refusal};
+ghost use Rattle.share_split.specs.Walks.{content_in, is_version, first_refusal, surplus_refusal, blob_share_refusal, sequence_after, unit_refusal};
 ghost use Rattle.share_split.specs.Steps.{TakesShare};
 ghost use Rattle.share_split.specs.declared.walking.Form.TheVariants.{Blobs, Units};
 
@@ -177,7 +177,7 @@ pub(crate) fn with_blob_share(
     i: u64,
 ) -> Result<Open, JoinError>
     ensures { TakesShare result
-        (blob_refusal i so_far share.now) (taken_by Blobs i so_far share.now) }
+        (blob_share_refusal i so_far share.now) (sequence_after Blobs i so_far share.now) }
 {
     match so_far {
         None => Open::begun(alloc, share, Form::Blobs, i),
@@ -193,7 +193,7 @@ pub(crate) fn with_unit_share(
     i: u64,
 ) -> Result<Open, JoinError>
     ensures { TakesShare result
-        (unit_refusal i so_far share.now) (taken_by Units i so_far share.now) }
+        (unit_refusal i so_far share.now) (sequence_after Units i so_far share.now) }
 {
     match so_far {
         None => Open::begun(alloc, share, Form::Units, i),

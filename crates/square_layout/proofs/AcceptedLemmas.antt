@@ -13,7 +13,7 @@ use Rattle.square_layout.specs.declared.laying.LayError.{LayError}
 use Rattle.square_layout.specs.declared.laying.LayError.TheVariants.{BadBlob, EmptyBlob}
 use Rattle.square_layout.specs.Blocks.{BlockParts, HaveBytes}
 use Rattle.square_layout.specs.Layout.{in_order, needed}
-use Rattle.square_layout.specs.Refusals.{bad_blob, empty_blob, blob_refusal, size_refusal, layout_refusal}
+use Rattle.square_layout.specs.Refusals.{bad_blob, empty_blob, blobs_refusal, size_refusal, layout_refusal}
 use Rattle.square_layout.proofs.NameLemmas.{IsBetween}
 use Rattle.square_layout.proofs.BlobOrderLemmas.{All-in_order}
 
@@ -122,13 +122,13 @@ no_refusal None b h = (refl, sym h)
 no_refusal (Some e) b h = absurd cc
 
 -- blobs that are not refused have bytes, in order too
-pub ordered_have_bytes : (here there order : List NamedBytes) → None ≡ blob_refusal here → here ≡ there → order ≡ in_order there → HaveBytes order
+pub ordered_have_bytes : (here there order : List NamedBytes) → None ≡ blobs_refusal here → here ≡ there → order ≡ in_order there → HaveBytes order
 ordered_have_bytes here there order none same is =
     let both = no_refusal (bad_blob 0 here) (empty_blob 0 here) none in
     subst HaveBytes (sym is) (All-in_order (λ (b : NamedBytes). 1 ≤ length b.bytes) there (subst HaveBytes same (no_empty_blob 0 here both.1)))
 
 -- blobs that are not refused lie between the reserved namespaces
-pub all_between : (here there : List NamedBytes) → None ≡ blob_refusal here → here ≡ there → AllByRecursion IsBetween there
+pub all_between : (here there : List NamedBytes) → None ≡ blobs_refusal here → here ≡ there → AllByRecursion IsBetween there
 all_between here there none same =
     let both = no_refusal (bad_blob 0 here) (empty_blob 0 here) none in
     subst (AllByRecursion IsBetween) same (no_bad_blob 0 here both.0)
@@ -137,5 +137,5 @@ all_between here there none same =
 pub block_named : (block : BlockParts) → layout_refusal block ≡ None
     → AllByRecursion (λ blob. is_blob_namespace blob.namespace.0 ≡ true) block.blobs
 block_named block none =
-    let of_blobs = no_refusal (blob_refusal block.blobs) (size_refusal block.width (needed block)) (sym none) in
+    let of_blobs = no_refusal (blobs_refusal block.blobs) (size_refusal block.width (needed block)) (sym none) in
     blobs_named 0 block.blobs (no_refusal (bad_blob 0 block.blobs) (empty_blob 0 block.blobs) (sym of_blobs.0)).0

@@ -6,7 +6,7 @@ use Rattle.share_split.specs.Joined.{IsBlob}
 use Rattle.share_split.specs.BlobLaws.{FewSharesHoldASequence}
 use Rattle.square_layout.specs.Blocks.{BlockParts, IsBlock, HaveBytes}
 use Rattle.square_layout.specs.Layout.{in_order, share_count_of, start_after, end_of, compact_end, needed, width_for}
-use Rattle.square_layout.specs.Refusals.{bad_blob, empty_blob, blob_refusal, max_shares, size_refusal, layout_refusal}
+use Rattle.square_layout.specs.Refusals.{bad_blob, empty_blob, blobs_refusal, max_shares, size_refusal, layout_refusal}
 use Rattle.square_layout.proofs.AcceptedLemmas.{no_empty_blob, no_refusal}
 use Rattle.square_layout.proofs.BlobOrderLemmas.{All-in_order}
 use Rattle.square_layout.proofs.LaidLemmas.{end_fits, square_fits}
@@ -48,7 +48,7 @@ are_blobs law (one ∷ blobs) named some held =
 pub ordered_are_blobs : FewSharesHoldASequence → (block : BlockParts) → layout_refusal block ≡ None → IsBlock block
     → AllByRecursion IsBlob (in_order block.blobs)
 ordered_are_blobs law block passes is =
-    let parts = no_refusal (blob_refusal block.blobs) (size_refusal block.width (needed block)) (sym passes) in
+    let parts = no_refusal (blobs_refusal block.blobs) (size_refusal block.width (needed block)) (sym passes) in
     let some : HaveBytes block.blobs =
     no_empty_blob 0 block.blobs (no_refusal (bad_blob 0 block.blobs) (empty_blob 0 block.blobs) (sym parts.0)).1 in
     let size = size_passes block.width (needed block) parts.1 in

@@ -11,7 +11,7 @@ use Rattle.share_split.specs.Blobs.{NamedBytes, blob_shares_of}
 use Rattle.share_split.specs.BlobLaws.{FewSharesHoldASequence}
 use Rattle.share_split.specs.Joined.{padding, blob, padding_of, padding_share, piece_shares, piece_blobs, IsBlob, IsPiece, AreBlobs}
 use Rattle.square_layout.specs.Blocks.{BlockParts, IsBlock}
-use Rattle.square_layout.specs.Layout.{share_count_of, start_after, gap_behind, placed, placed_behind, in_order, compact_part, compact_end, laid, width_for, square_of}
+use Rattle.square_layout.specs.Layout.{share_count_of, start_after, gap_behind, placed, placed_behind, in_order, compact_part, compact_end, laid, width_for, block_square}
 use Rattle.square_layout.specs.Plans.{PlanParts, front, lead, planned, plan_width, square_of_plan}
 use Rattle.square_layout.specs.Refusals.{layout_refusal}
 use Rattle.square_layout.proofs.LaidLemmas.{length-compact_part}
@@ -94,15 +94,15 @@ abbrev pub tail_of : BlockParts → List Share
 tail_of block = replicate (width_for block * width_for block - length (laid block)) (padding_share tail_padding)
 
 -- it stands behind the compact shares
-pub behind_compact_part : (block : BlockParts) → drop (compact_end block) (square_of block).shares ≡ placed_of block ++ tail_of block
+pub behind_compact_part : (block : BlockParts) → drop (compact_end block) (block_square block).shares ≡ placed_of block ++ tail_of block
 behind_compact_part block =
-    ap (λ (n : ℕ). drop n (square_of block).shares) (sym (length-compact_part block))
+    ap (λ (n : ℕ). drop n (block_square block).shares) (sym (length-compact_part block))
     ∙ ap (drop (length (compact_part block))) (append_assoc (compact_part block) (placed_of block) (tail_of block))
     ∙ drop-append_seam (compact_part block) (placed_of block ++ tail_of block)
 
 -- the shares behind the compact ones are the blobs, in their order
 pub blobs_behind : FewSharesHoldASequence → (block : BlockParts) → layout_refusal block ≡ None → IsBlock block
-    → AreBlobs (drop (compact_end block) (square_of block).shares) (in_order block.blobs)
+    → AreBlobs (drop (compact_end block) (block_square block).shares) (in_order block.blobs)
 blobs_behind few block none is =
     let blobs = placed_blobs false 0 primary_reserved_padding (compact_end block) (in_order block.blobs) (omega arith) (low_is_namespace 0xFF (omega arith))
     (ordered_are_blobs few block none is) in

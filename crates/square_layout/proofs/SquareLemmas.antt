@@ -24,9 +24,9 @@ use Rattle.namespace_id.specs.Doublings.{least_doubling}
 use Rattle.namespace_id.proofs.DoublingLemmas.{least_doubling-suc, least_doubling-found}
 use Rattle.namespace_id.proofs.ShareLemmas.{AreShares-append}
 use Rattle.namespace_id.proofs.RefusalLemmas.{if_none}
-use Rattle.square_layout.specs.Layout.{in_order, share_count_of, start_after, gap_behind, placed, placed_behind, compact_end, laid, needed, holds_shares, holding_from, width_for, square_of}
+use Rattle.square_layout.specs.Layout.{in_order, share_count_of, start_after, gap_behind, placed, placed_behind, compact_end, laid, needed, holds_shares, holding_from, width_for, block_square}
 use Rattle.square_layout.specs.Plans.{PlanParts, IsPlan, bound, front, lead, planned, plan_width, square_of_plan}
-use Rattle.square_layout.specs.Refusals.{max_shares, max_count, blob_refusal, width_refusal, size_refusal, layout_refusal}
+use Rattle.square_layout.specs.Refusals.{max_shares, most_told, blobs_refusal, width_refusal, size_refusal, layout_refusal}
 use Rattle.square_layout.proofs.AcceptedLemmas.{no_refusal}
 use Rattle.square_layout.proofs.BlobOrderLemmas.{All-in_order}
 use Rattle.square_layout.proofs.LaidLemmas.{length-padded, laid_fits}
@@ -74,19 +74,19 @@ pub size_passes : (width : Option ℕ) (count : ℕ) → size_refusal width coun
     → (is_width (option_map_or (λ k. k) width (holding_from 9 1 count)) ≡ true)
     × (count ≤ option_map_or (λ k. k) width (holding_from 9 1 count) * option_map_or (λ k. k) width (holding_from 9 1 count))
 size_passes None count h =
-    let fits = if_none (nat_lt max_shares count) (TooLarge (min count max_count)) None h in
+    let fits = if_none (nat_lt max_shares count) (TooLarge (min count most_told)) None h in
     let few : count ≤ most_shares = grind (arith, nat_tests, fits.0) in
     (least_is_width count, holding_holds count few)
 size_passes (Some k) count h =
-    let fits = if_none (nat_lt max_shares count) (TooLarge (min count max_count)) (width_refusal count k) h in
+    let fits = if_none (nat_lt max_shares count) (TooLarge (min count most_told)) (width_refusal count k) h in
     let asked = if_none (nat_lt (k * k) count) (WidthTooSmall count) (if is_width k then None else Some BadWidth) fits.1 in
     let holds : count ≤ k * k = grind (arith, nat_tests, asked.0) in
     (if_passes (is_width k) BadWidth asked.1, holds)
 
 -- the square of a block that is not refused is a square
-pub square_is_square : (block : BlockParts) → layout_refusal block ≡ None → IsSquare (square_of block)
+pub square_is_square : (block : BlockParts) → layout_refusal block ≡ None → IsSquare (block_square block)
 square_is_square block none =
-    let size = no_refusal (blob_refusal block.blobs) (size_refusal block.width (needed block)) (sym none) in
+    let size = no_refusal (blobs_refusal block.blobs) (size_refusal block.width (needed block)) (sym none) in
     let k : ℕ = width_for block in
     let passes = size_passes block.width (needed block) size.1 in
     record {
@@ -145,7 +145,7 @@ placed-shares_law versioned before end (blob ∷ blobs) is all =
     (gap_is_share (gap_version versioned blob) blob.namespace (gap_version-low versioned blob) all.0.name) all.1)
 
 -- a square has shares
-pub square_has_shares : (block : BlockParts) → IsBlock block → AreShares (square_of block).shares
+pub square_has_shares : (block : BlockParts) → IsBlock block → AreShares (block_square block).shares
 square_has_shares block is =
     let units : List Share = unit_shares_of transaction block.units in
     let pay_units : List Share = unit_shares_of pay_for_blob block.pay_units in

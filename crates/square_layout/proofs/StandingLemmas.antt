@@ -14,7 +14,7 @@ use Rattle.share_split.specs.Blobs.{NamedBytes, blob_shares_of}
 use Rattle.share_split.specs.Joined.{padding_share}
 use Rattle.square_layout.specs.Blocks.{BlockParts}
 use Rattle.share_split.proofs.Writing.BlobLaws.{length-blob_shares_of}
-use Rattle.square_layout.specs.Layout.{share_count_of, start_after, end_of, placed, placed_behind, last_name, padding_name, in_order, compact_part, compact_end, laid, width_for, square_of}
+use Rattle.square_layout.specs.Layout.{share_count_of, start_after, end_of, placed, placed_behind, last_name, padding_name, in_order, compact_part, compact_end, laid, width_for, block_square}
 use Rattle.square_layout.proofs.PlaceLemmas.{start_after-ge, length-placed}
 use Rattle.square_layout.proofs.LaidLemmas.{length-compact_part}
 
@@ -141,7 +141,7 @@ gap_stands block front back blob i e from below =
 
 -- tail padding stands behind the layout
 pub tail_stands : (block : BlockParts) (i : ℕ) → length (laid block) ≤ i → i < width_for block * width_for block
-    → slice_get (square_of block).shares i ≡ Some (padding_share tail_padding)
+    → slice_get (block_square block).shares i ≡ Some (padding_share tail_padding)
 tail_stands block i from below =
     let n : ℕ = width_for block * width_for block - length (laid block) in
     ap (λ (l : List Share). slice_get (laid block ++ l) i) (sym (append-nil (replicate n (padding_share tail_padding))))

@@ -108,8 +108,8 @@ abbrev pub width_for : BlockParts → ℕ
 width_for block = option_map_or (λ k. k) block.width (holding_from 9 1 (needed block))
 
 -- the square of a block: the layout, and tail padding behind it
-abbrev pub square_of : BlockParts → SquareShares
-square_of block = record {
+abbrev pub block_square : BlockParts → SquareShares
+block_square block = record {
   k = width_for block;
   shares = laid block
       ++ replicate (width_for block * width_for block - length (laid block)) (padding_share tail_padding);

@@ -26,8 +26,8 @@ empty_blob i (blob ∷ blobs) =
     if length blob.bytes == 0 then Some (EmptyBlob i) else empty_blob (suc i) blobs
 
 -- the first check of blobs that fails: all namespaces come before all bytes
-abbrev pub blob_refusal : List NamedBytes → Option LayError
-blob_refusal blobs = option_or (bad_blob 0 blobs) (empty_blob 0 blobs)
+abbrev pub blobs_refusal : List NamedBytes → Option LayError
+blobs_refusal blobs = option_or (bad_blob 0 blobs) (empty_blob 0 blobs)
 
 -- ---- the size
 
@@ -36,8 +36,8 @@ abbrev pub max_shares : ℕ
 max_shares = most_shares
 
 -- a greater number of shares isn't told
-abbrev pub max_count : ℕ
-max_count = 2 ^ 64 - 1
+abbrev pub most_told : ℕ
+most_told = 2 ^ 64 - 1
 
 -- why a square of the width k doesn't hold so many shares
 abbrev pub width_refusal : ℕ → ℕ → Option LayError
@@ -48,16 +48,16 @@ width_refusal count k =
 -- why no square holds so many shares, or not the one whose width is asked for
 abbrev pub size_refusal : Option ℕ → ℕ → Option LayError
 size_refusal width count =
-    if nat_lt max_shares count then Some (TooLarge (min count max_count)) else
+    if nat_lt max_shares count then Some (TooLarge (min count most_told)) else
     option_map_or (width_refusal count) width None
 
 -- ---- the block
 
 -- the first check that fails
 abbrev pub layout_refusal : BlockParts → Option LayError
-layout_refusal block = option_or (blob_refusal block.blobs) (size_refusal block.width (needed block))
+layout_refusal block = option_or (blobs_refusal block.blobs) (size_refusal block.width (needed block))
 
 -- a call answered the first check that fails, or, where none does, a value; unless memory ran out
-abbrev pub Answers : {X : Type 0} → Result X LayError → Option LayError → Type 0
-Answers (Ok x) refusal = refusal ≡ None
-Answers (Err e) refusal = (e ≡ NoMemory) ⊎ (refusal ≡ Some e)
+abbrev pub AnswersLaying : {X : Type 0} → Result X LayError → Option LayError → Type 0
+AnswersLaying (Ok x) refusal = refusal ≡ None
+AnswersLaying (Err e) refusal = (e ≡ NoMemory) ⊎ (refusal ≡ Some e)

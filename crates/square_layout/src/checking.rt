@@ -2,7 +2,7 @@
 
 ghost use Rattle.std.specs.Prelude.{◌≡◌, ◌<◌, ◌≤◌, Some, None};
 ghost use Rattle.namespace_id.specs.Names.{namespace_refusal};
-ghost use Rattle.square_layout.specs.Refusals.{bad_blob, empty_blob, blob_refusal, width_refusal, size_refusal};
+ghost use Rattle.square_layout.specs.Refusals.{bad_blob, empty_blob, blobs_refusal, width_refusal, size_refusal};
 
 use crate::widths::square_size;
 use crate::{LayError, MAX_SHARES};
@@ -42,7 +42,7 @@ fn empty_blob(blobs: &[Blob]) -> Option<LayError>
 
 /// The first check of blobs that fails: all namespaces come before all bytes.
 pub(crate) fn blob_refusal(blobs: &[Blob]) -> Option<LayError>
-    ensures { result ≡ blob_refusal blobs.now }
+    ensures { result ≡ blobs_refusal blobs.now }
 {
     bad_blob(blobs).or_else(|| empty_blob(blobs))
 }

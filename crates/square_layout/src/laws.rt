@@ -11,7 +11,7 @@ ghost use Rattle.share_split.specs.Widths.{subtree_width_of};
 ghost use Rattle.share_split.specs.Blobs.{NamedBytes, blob_shares_of};
 ghost use Rattle.share_split.specs.Joined.{padding_share, IsBlob, AreBlobs};
 ghost use Rattle.square_layout.specs.Blocks.{BlockParts, IsBlock, IsSquare};
-ghost use Rattle.square_layout.specs.Layout.{has_name, in_order, share_count_of, start_after, end_of, compact_part, compact_end, laid, needed, holding_from, width_for, square_of};
+ghost use Rattle.square_layout.specs.Layout.{has_name, in_order, share_count_of, start_after, end_of, compact_part, compact_end, laid, needed, holding_from, width_for, block_square};
 ghost use Rattle.square_layout.specs.Plans.{PlanParts, IsPlan, plan_of, starts_after, ArePlaces, AreAtMost, bound, front, planned, square_of_plan};
 ghost use Rattle.square_layout.specs.Refusals.{max_shares, layout_refusal};
 ghost use Rattle.square_layout.specs.ShareNames.{BlobSharesAreNamed, UnitSharesAreNamed, PaddingIsNamed};
@@ -49,7 +49,7 @@ pub fn start_laws()
     ensures gap { GapsArePadding }
     ensures tail { (block : BlockParts) (i : ℕ) → length (laid block) ≤ i →
         i < width_for block * width_for block →
-        slice_get (square_of block).shares i ≡ Some (padding_share tail_padding) }
+        slice_get (block_square block).shares i ≡ Some (padding_share tail_padding) }
 {}
 
 /// The layout has as many shares as are needed, but where 1 is needed for none; a square that holds
@@ -58,7 +58,7 @@ pub fn start_laws()
 pub fn size_laws()
     ensures needed { (block : BlockParts) → needed block ≡ max 1 (length (laid block)) }
     ensures full { (block : BlockParts) → needed block ≤ width_for block * width_for block →
-        length (square_of block).shares ≡ width_for block * width_for block }
+        length (block_square block).shares ≡ width_for block * width_for block }
     ensures holds { (count : ℕ) → count ≤ max_shares →
         count ≤ holding_from 9 1 count * holding_from 9 1 count }
     ensures least { (count j : ℕ) → j ≤ 9 → count ≤ 2 ^ j * 2 ^ j → holding_from 9 1 count ≤ 2 ^ j }
@@ -66,8 +66,8 @@ pub fn size_laws()
     ensures limit { MAX_SHARES ≡ max_shares }
 
     // Squares and shares.
-    ensures square { (block : BlockParts) → layout_refusal block ≡ None → IsSquare (square_of block) }
-    ensures shares { (block : BlockParts) → IsBlock block → AreShares (square_of block).shares }
+    ensures square { (block : BlockParts) → layout_refusal block ≡ None → IsSquare (block_square block) }
+    ensures shares { (block : BlockParts) → IsBlock block → AreShares (block_square block).shares }
 {}
 
 /// The checks of a blob's namespace pass what `Namespace::blob` takes; the blobs of a block that isn't
@@ -79,7 +79,7 @@ pub fn name_laws()
         AllByRecursion (λ blob. is_blob_namespace blob.namespace.0 ≡ true) block.blobs }
     ensures rising { (block : BlockParts) →
         AllByRecursion (λ blob. is_blob_namespace blob.namespace.0 ≡ true) block.blobs →
-        holds_along is_at_most (map name_in (square_of block).shares) ≡ true }
+        holds_along is_at_most (map name_in (block_square block).shares) ≡ true }
 {}
 
 /// The shares of a blob, those of units, and padding have their namespace. The blobs of a block of bytes
@@ -95,7 +95,7 @@ pub fn share_laws()
     // Behind its compact shares the square of a block is exactly its blobs, in their order, with padding
     // before, between and behind them.
     ensures behind { (block : BlockParts) → layout_refusal block ≡ None → IsBlock block →
-        AreBlobs (drop (compact_end block) (square_of block).shares) (in_order block.blobs) }
+        AreBlobs (drop (compact_end block) (block_square block).shares) (in_order block.blobs) }
 {
     blob_laws();
 }

@@ -8,8 +8,8 @@ ghost use Rattle.namespace_id.specs.Names.{is_at_most, tail_padding};
 ghost use Rattle.namespace_id.specs.Shares.{name_in};
 ghost use Rattle.share_split.specs.Joined.{padding_share};
 ghost use Rattle.square_layout.specs.Blocks.{HaveBytes};
-ghost use Rattle.square_layout.specs.Layout.{in_order, compact_part, laid, needed, square_of};
-ghost use Rattle.square_layout.specs.Refusals.{max_shares, layout_refusal, Answers};
+ghost use Rattle.square_layout.specs.Layout.{in_order, compact_part, laid, needed, block_square};
+ghost use Rattle.square_layout.specs.Refusals.{max_shares, layout_refusal, AnswersLaying};
 
 use crate::checking::{blob_refusal, size_refusal};
 use crate::counting::needed;
@@ -101,10 +101,10 @@ pub fn lay(alloc: Global, block: &Block) -> Result<Square, LayError>
         ↔ (layout_refusal block.now ≡ Some (LayError.BadBlob i e)) }
     ensures empty_blob { (i : ℕ) → IsErrOf result (LayError.EmptyBlob i)
         ↔ (layout_refusal block.now ≡ Some (LayError.EmptyBlob i)) }
-    ensures first { Answers result (layout_refusal block.now) }
+    ensures first { AnswersLaying result (layout_refusal block.now) }
 
     // The square.
-    ensures square { IfOk result (λ square. square ≡ square_of block.now) }
+    ensures square { IfOk result (λ square. square ≡ block_square block.now) }
     ensures names { IfOk result (λ square.
         holds_along is_at_most (map name_in square.shares) ≡ true) }
 {

@@ -30,7 +30,7 @@ use Rattle.axis_roots.proofs.Grids.LineLemmas.{line_leaves}
 use Rattle.axis_roots.proofs.Grids.HeaderLemmas.{some_if, ordered_axis, header_width, header_root}
 use Rattle.axis_roots.proofs.Grids.RootingLemmas.{root-leaves}
 use Rattle.axis_roots.proofs.Grids.StoredLemmas.{axis_shares-are}
-use Rattle.square_serve.specs.Shares.{row_shares, shares_of}
+use Rattle.square_serve.specs.Shares.{row_shares, namespace_shares}
 use Rattle.square_serve.specs.Answers.{shown_found, shown, is_wanted, wanted_rows}
 use Rattle.square_serve.specs.Serving.{HeldParts, IsHeld}
 use Rattle.square_serve.proofs.PassingLemmas.{row_by_row}
@@ -113,7 +113,7 @@ unwanted_none header name square own row other h unwanted =
 -- where there is an entry for each row that may hold a namespace, and each shows its row's shares of it, all are shown
 pub shown_rows : (header : Roots) (name : Namespace) (square : SquareShares) (own : IsHeaderOf header square) (answer : List NsEntry) → is_parity name ≡ false
     → map (λ entry. entry.row) answer ≡ wanted_rows header name → AllByRecursion (λ entry. shown_found entry.row entry.found ≡ row_shares square name entry.row) answer
-    → shown answer ≡ shares_of square name
+    → shown answer ≡ namespace_shares square name
 shown_rows header name square own answer other rows each =
     let width : header.k ≡ square.k = header_width square.k own.grid header own.roots in
     row_by_row (is_wanted header name) (row_shares square name) (λ entry. shown_found entry.row entry.found) (λ entry. entry.row) header.k 0 answer rows each

@@ -14,13 +14,13 @@ use Rattle.axis_roots.specs.declared.answers.Found.TheVariants.{Range, Absence}
 use Rattle.axis_roots.specs.declared.answers.NsEntry.{NsEntry}
 use Rattle.axis_roots.specs.Grids.{IsHeaderOf}
 use Rattle.axis_roots.specs.Own.{NamesAt, AgreesAt}
-use Rattle.square_serve.specs.Shares.{shares_of}
+use Rattle.square_serve.specs.Shares.{namespace_shares}
 use Rattle.square_serve.specs.Answers.{shown}
 
 -- the parts that an entry shows of the tree over its row
-abbrev pub parts_of : Namespace → Found → List Shown
-parts_of name (Range start shares nodes) = leaves_from start name shares
-parts_of name (Absence pos leaf nodes) = one_digest pos leaf
+abbrev pub entry_parts : Namespace → Found → List Shown
+entry_parts name (Range start shares nodes) = leaves_from start name shares
+entry_parts name (Absence pos leaf nodes) = one_digest pos leaf
 
 -- the nodes of an entry
 abbrev pub nodes_of : Found → List Digest
@@ -28,17 +28,17 @@ nodes_of (Range start shares nodes) = nodes
 nodes_of (Absence pos leaf nodes) = nodes
 
 -- the tree that an entry opens in a square of width k
-abbrev pub opened_by : ℕ → Namespace → Found → Part
-opened_by k name found = opened (halvings (2 * k)) 0 (parts_of name found) (nodes_of found)
+abbrev pub entry_opened : ℕ → Namespace → Found → Part
+entry_opened k name found = opened (halvings (2 * k)) 0 (entry_parts name found) (nodes_of found)
 
 -- an entry and the square name a collision: the first two strings in which the tree that the entry opens and the
 -- square's tree of that row differ
 abbrev pub EntryNames : Namespace → SquareShares → NsEntry → Type 0
-EntryNames name square entry = NamesAt (opened_by square.k name entry.found) square Row entry.row
+EntryNames name square entry = NamesAt (entry_opened square.k name entry.found) square Row entry.row
 
 -- the tree that an entry opens agrees with the square's tree of that row, and they name no collision
 abbrev pub EntryAgrees : Namespace → SquareShares → NsEntry → Type 0
-EntryAgrees name square entry = AgreesAt (opened_by square.k name entry.found) square Row entry.row
+EntryAgrees name square entry = AgreesAt (entry_opened square.k name entry.found) square Row entry.row
 
 -- an entry of an answer and the square name a collision
 abbrev pub AnswerNames : Namespace → SquareShares → List NsEntry → Type 0
@@ -46,7 +46,7 @@ AnswerNames name square answer = (entry : NsEntry) × Contains answer entry × E
 
 -- an answer shows exactly the square's shares of the namespace, and no entry names a collision
 pub record ShowsAll (name : Namespace) (square : SquareShares) (answer : List NsEntry) : Type 0 where
-  pub shares : shown answer ≡ shares_of square name
+  pub shares : shown answer ≡ namespace_shares square name
   pub alike : AllByRecursion (EntryAgrees name square) answer
 
 -- under the header of a square an answer shows exactly the square's shares of the namespace, or an entry and the square

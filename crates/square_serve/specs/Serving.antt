@@ -64,9 +64,9 @@ found_in k grid name row =
     found_at k grid row (count_below name (axis_names k grid Row row)) (count_same name (axis_names k grid Row row))
 
 -- the entry of a row
-abbrev pub entry_in : ℕ → List Share → Namespace → ℕ → NsEntry
-entry_in k grid name row = record { row = row; found = found_in k grid name row }
+abbrev pub row_entry : ℕ → List Share → Namespace → ℕ → NsEntry
+row_entry k grid name row = record { row = row; found = found_in k grid name row }
 
 -- the answer: an entry for each row that may hold the namespace, in their order
 abbrev pub answer_for : HeldParts → Namespace → List NsEntry
-answer_for held name = map (entry_in held.k held.grid name) (wanted_rows held.header name)
+answer_for held name = map (row_entry held.k held.grid name) (wanted_rows held.header name)

@@ -26,5 +26,5 @@ row_shares square name row =
     filter (λ p. is_named name p.1) (map (λ col. cell_share square (cell_on Row row col)) (ascending 0 square.k))
 
 -- the shares of a namespace, each with its cell, row-major
-abbrev pub shares_of : SquareShares → Namespace → List (Cell × Share)
-shares_of square name = flat_map (row_shares square name) (ascending 0 square.k)
+abbrev pub namespace_shares : SquareShares → Namespace → List (Cell × Share)
+namespace_shares square name = flat_map (row_shares square name) (ascending 0 square.k)

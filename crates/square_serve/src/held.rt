@@ -8,12 +8,12 @@ ghost use Rattle.square_layout.specs.Blocks.{SquareShares};
 ghost use Rattle.axis_roots.specs.Grids.{axis_shares, share_at, grid_roots, HasNoHeader};
 ghost use Rattle.axis_roots.specs.Openings.{IsProved};
 ghost use Rattle.axis_roots.specs.Trees.{message_at};
-ghost use Rattle.square_serve.specs.Shares.{shares_of};
+ghost use Rattle.square_serve.specs.Shares.{namespace_shares};
 ghost use Rattle.square_serve.specs.Answers.{shown, is_wanted, wanted_rows, IsComplete};
 ghost use Rattle.square_serve.specs.Needed.{AreNeeded};
 ghost use Rattle.square_serve.specs.RowNames.{row_names};
 ghost use Rattle.square_serve.specs.Finding.{found_on, HasColumns};
-ghost use Rattle.square_serve.specs.Serving.{IsHeld, Holds, entry_in, found_in, answer_for};
+ghost use Rattle.square_serve.specs.Serving.{IsHeld, Holds, row_entry, found_in, answer_for};
 
 use crate::finding::{RowFound, found_in, place_in};
 use crate::needed::NeededTrees;
@@ -113,7 +113,7 @@ fn entries_of(
     requires other { is_parity namespace.now ≡ false }
     ensures trees { AreNeeded grid.now.k grid.now.shares trees.new }
     ensures entries { IfOk result (λ entries. entries.items ≡
-        map (entry_in grid.now.k grid.now.shares namespace.now)
+        map (row_entry grid.now.k grid.now.shares namespace.now)
         (wanted_rows (grid_roots grid.now.k grid.now.shares) namespace.now)) }
 {
     let mut entries = Vec::new(alloc);
@@ -271,7 +271,7 @@ impl Held {
         ensures complete { IfOk result (λ answer.
             IsComplete self.old.header namespace.now answer) }
         ensures shares { IfOk result (λ answer. (square : SquareShares) → Holds self.old square →
-            shown answer ≡ shares_of square namespace.now) }
+            shown answer ≡ namespace_shares square namespace.now) }
         ensures kept { self.new ≡ self.old }
     {
         if namespace.is_parity() {

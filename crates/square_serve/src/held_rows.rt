@@ -5,10 +5,10 @@ ghost use Rattle.namespace_id.specs.declared.shares.Share.{Share as ShareOf};
 ghost use Rattle.namespace_id.specs.Names.{is_parity};
 ghost use Rattle.data_header.specs.Headers.{Roots};
 ghost use Rattle.axis_roots.specs.Grids.{Extends, IsHeaderOf, HasNoHeader, grid_roots};
-ghost use Rattle.square_serve.specs.Shares.{shares_of};
+ghost use Rattle.square_serve.specs.Shares.{namespace_shares};
 ghost use Rattle.square_serve.specs.Answers.{shown, wanted_rows, IsComplete};
 ghost use Rattle.square_serve.specs.Rows.{HasHeader, AreHeldRows};
-ghost use Rattle.square_serve.specs.Serving.{HeldParts, Holds, entry_in, answer_for};
+ghost use Rattle.square_serve.specs.Serving.{HeldParts, Holds, row_entry, answer_for};
 
 use crate::finding::found_in;
 use crate::ordering::has_header;
@@ -59,7 +59,7 @@ fn entries_of(
     ensures held { AreHeldRows square.now names.now trees.new }
     ensures entries { IfOk result (λ entries. (grid : List ShareOf) →
         Extends square.now.k square.now.shares grid → entries.items ≡
-        map (entry_in square.now.k grid namespace.now)
+        map (row_entry square.now.k grid namespace.now)
         (wanted_rows (grid_roots square.now.k grid) namespace.now)) }
 {
     let mut entries = Vec::new(alloc);
@@ -123,7 +123,7 @@ impl HeldRows {
         // The answer is complete under the header, and shows exactly the shares of the square that is held.
         ensures complete { IfOk result (λ answer. (header : Roots) → IsHeaderOf header self.old →
             IsComplete header namespace.now answer) }
-        ensures shares { IfOk result (λ answer. shown answer ≡ shares_of self.old namespace.now) }
+        ensures shares { IfOk result (λ answer. shown answer ≡ namespace_shares self.old namespace.now) }
         ensures kept { self.new ≡ self.old }
     {
         if namespace.is_parity() {

@@ -14,7 +14,7 @@ ghost use Rattle.axis_roots.specs.Answers.{AreEntries};
 ghost use Rattle.axis_roots.specs.Grids.{IsHeaderOf};
 ghost use Rattle.axis_roots.specs.Openings.{IsProved};
 ghost use Rattle.axis_roots.specs.Trees.{message_at};
-ghost use Rattle.square_serve.specs.Shares.{shares_of};
+ghost use Rattle.square_serve.specs.Shares.{namespace_shares};
 ghost use Rattle.square_serve.specs.Answers.{shown, first_column, end_column, IsComplete, answer_refusal};
 ghost use Rattle.square_serve.specs.Own.{ShowsAll, AnswerNames, IsOwnAnswer};
 ghost use Rattle.square_serve.specs.Serving.{HeldParts, IsHeld, Holds, answer_for};
@@ -61,13 +61,13 @@ pub fn serve_laws()
         AreEntries (answer_for held name) }
     ensures shares { (held : HeldParts) (square : SquareShares) (name : Namespace) → IsHeld held →
         Holds held square → IsNamespace name → is_parity name ≡ false →
-        shown (answer_for held name) ≡ shares_of square name }
+        shown (answer_for held name) ≡ namespace_shares square name }
 
     // So each namespace but PARITY has an answer under the header of a square.
     ensures answer { (header : Roots) (square : SquareShares) (name : Namespace) →
         IsHeaderOf header square → IsNamespace name → is_parity name ≡ false →
         (answer : List NsEntry) × IsComplete header name answer × AreEntries answer
-        × (shown answer ≡ shares_of square name) }
+        × (shown answer ≡ namespace_shares square name) }
 
     // No other answer is complete under the header of the square that is held, unless an entry and the
     // square name a collision.

@@ -3,7 +3,7 @@
 
 ghost use Rattle.std.specs.Prelude.{◌≡◌, ◌≤◌, ◌==◌, slice_index};
 ghost use Rattle.blob_feed.specs.Filters.{IsFilter};
-ghost use Rattle.blob_feed.specs.Followers.{count_of};
+ghost use Rattle.blob_feed.specs.Followers.{height_count};
 
 use axis_roots::{Grid, NsAnswer, header_of};
 use blob_feed::{Entry, Filter, FollowError, Follower, Taken};
@@ -54,8 +54,8 @@ fn tell<F: Filter>(
     want: Result<Taken, FollowError>,
     name: &str,
 )
-    requires { 1 ≤ count_of follower.old }
-    ensures { count_of follower.new ≡ count_of follower.old }
+    requires { 1 ≤ height_count follower.old }
+    ensures { height_count follower.new ≡ height_count follower.old }
 {
     assert!(rt; follower.answer(&namespace, answer) == want, "{name}");
 }
@@ -68,8 +68,8 @@ fn tell_all<F: Filter>(
     whole: &NsAnswer,
     empty: &NsAnswer,
 )
-    requires { 1 ≤ count_of follower.old }
-    ensures { count_of follower.new ≡ count_of follower.old }
+    requires { 1 ≤ height_count follower.old }
+    ensures { height_count follower.new ≡ height_count follower.old }
 {
     let no_blob = Err(FollowError::NotBlob(NsError::Version));
     tell(rt, follower, PARITY, whole, no_blob, "parity");

@@ -2,8 +2,8 @@
 use Rattle.std.proofs.Common.{true, false, ◌≡◌, ℕ, ◌^◌, ◌<◌, ◌==◌, not, cond, Bool, List, [], ◌∷◌, length, map, filter, Some, None, IfSome, refl}
 use Rattle.std.specs.List.{AllByRecursion}
 use Rattle.share_split.specs.Blobs.{signer_size}
-use Rattle.tx_list.specs.Spelled.{blob_spelling, spelled}
-use Rattle.tx_list.specs.Reads.{entries_of, is_payment, tx_in, stated, blob_of, payment_of, list_of}
+use Rattle.tx_list.specs.Spelled.{blob_spelling, spelled_list}
+use Rattle.tx_list.specs.Reads.{payment_entries, is_payment, tx_in, stated, blob_of, payment_of, list_of}
 use Rattle.tx_list.specs.ReadRefusals.{read_refusal}
 use Rattle.tx_list.specs.Walks.{IsTaken, IsTakenPayment, AreTaken}
 use Rattle.tx_list.specs.ReadLaws.{HasSpelling, IsSpellable, ArePaymentsCounted}
@@ -37,7 +37,7 @@ payments_step : (is : Bool) (one : List ℕ) (others : List (List ℕ)) → (is 
 payments_step true one others taken rest counted = (
   record {
     some = (taken_payment (tx_in one) one (taken refl)).some;
-    blobs = blobs_have (entries_of one) (taken refl).blobs counted.0.1;
+    blobs = blobs_have (payment_entries one) (taken refl).blobs counted.0.1;
     fits = counted.0.0;
   },
   rest counted.1,
@@ -62,7 +62,7 @@ units_plain (one ∷ others) = plain_step (is_payment one) one (filter (λ one. 
 
 -- so the list in its one spelling is read alike
 pub read_again : (transactions : List (List ℕ)) → read_refusal transactions ≡ None → ArePaymentsCounted (list_of transactions).payments
-    → list_of (spelled (list_of transactions)) ≡ list_of transactions
+    → list_of (spelled_list (list_of transactions)) ≡ list_of transactions
 read_again transactions h counted =
     spelled_is_read (list_of transactions)
     (record { plain = units_plain transactions; payments = payments_have transactions (all_taken 0 false transactions h) counted })

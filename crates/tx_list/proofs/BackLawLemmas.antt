@@ -9,7 +9,7 @@ use Rattle.namespace_id.specs.declared.shares.Share.{Share}
 use Rattle.namespace_id.specs.Shares.{share_of}
 use Rattle.namespace_id.proofs.RefusalLemmas.{if_none}
 use Rattle.square_layout.specs.Blocks.{SquareShares}
-use Rattle.square_layout.specs.Refusals.{max_shares, max_count}
+use Rattle.square_layout.specs.Refusals.{max_shares, most_told}
 use Rattle.tx_list.specs.declared.refusals.ListError.{ListError}
 use Rattle.tx_list.specs.declared.refusals.ListError.TheVariants.{TooLarge}
 use Rattle.tx_list.specs.declared.refusals.BackError.TheVariants.{Unlike}
@@ -17,8 +17,8 @@ use Rattle.tx_list.specs.Payments.{ListParts}
 use Rattle.tx_list.specs.Reserves.{list_bound}
 use Rattle.tx_list.specs.Reads.{list_of}
 use Rattle.tx_list.specs.ReadRefusals.{read_refusal}
-use Rattle.tx_list.specs.Refusals.{size_refusal}
-use Rattle.tx_list.specs.Spelled.{spelled}
+use Rattle.tx_list.specs.Refusals.{list_size_refusal}
+use Rattle.tx_list.specs.Spelled.{spelled_list}
 use Rattle.tx_list.specs.Lists.{square_of_list}
 use Rattle.tx_list.specs.Backs.{IsBack, HaveNamedBlobs}
 use Rattle.tx_list.specs.BackRefusals.{first_unlike, unlike_at, laid_refusal, back_list, part_refusal, back_refusal}
@@ -31,11 +31,11 @@ few_by : (n : ℕ) → nat_lt max_shares n ≡ false → n ≤ max_shares
 few_by n h = grind (arith, nat_tests)
 
 -- transactions that no check refuses have a square
-laid_list : (transactions : List (List ℕ)) → read_refusal transactions ≡ None → size_refusal (list_of transactions) ≡ None → HaveNamedBlobs transactions
+laid_list : (transactions : List (List ℕ)) → read_refusal transactions ≡ None → list_size_refusal (list_of transactions) ≡ None → HaveNamedBlobs transactions
     → IsLaidList (list_of transactions)
 laid_list transactions taken fits named =
     let bound : ℕ = list_bound (list_of transactions) in
-    let few = if_none (nat_lt max_shares bound) (TooLarge (min bound max_count)) None fits in
+    let few = if_none (nat_lt max_shares bound) (TooLarge (min bound most_told)) None fits in
     record {
       few = few_by bound few.0;
       payments = payments_kept transactions (all_taken 0 false transactions taken);
@@ -43,7 +43,7 @@ laid_list transactions taken fits named =
     }
 
 -- the square of these is read as their list
-pub back_of : (square : SquareShares) (transactions : List (List ℕ)) → read_refusal transactions ≡ None → size_refusal (list_of transactions) ≡ None
+pub back_of : (square : SquareShares) (transactions : List (List ℕ)) → read_refusal transactions ≡ None → list_size_refusal (list_of transactions) ≡ None
     → square_of_list (list_of transactions) ≡ square → HaveNamedBlobs transactions → back_list square ≡ list_of transactions
 back_of square transactions taken fits laid named =
     ap back_list (sym laid) ∙ list_back (list_of transactions) (laid_list transactions taken fits named)
@@ -53,7 +53,7 @@ pub one_list : (square : SquareShares) (one other : List (List ℕ)) → HaveNam
     → one ≡ other
 one_list square one other named also is are =
     sym is.canonical
-    ∙ ap spelled (sym (back_of square one is.taken is.fits is.laid named) ∙ back_of square other are.taken are.fits are.laid also)
+    ∙ ap spelled_list (sym (back_of square one is.taken is.fits is.laid named) ∙ back_of square other are.taken are.fits are.laid also)
     ∙ are.canonical
 
 -- ---- squares that are the same
@@ -75,7 +75,7 @@ pub none_refused : (square : SquareShares) (transactions : List (List ℕ)) → 
 none_refused square transactions named is =
     let list : ListParts = list_of transactions in
     let parts : part_refusal square ≡ None = ap part_refusal (sym is.laid) ∙ parts_pass list (laid_list transactions is.taken is.fits named) in
-    let read : spelled (back_list square) ≡ transactions = ap spelled (back_of square transactions is.taken is.fits is.laid named) ∙ is.canonical in
+    let read : spelled_list (back_list square) ≡ transactions = ap spelled_list (back_of square transactions is.taken is.fits is.laid named) ∙ is.canonical in
     let same : unlike_at square (square_of_list list) ≡ None = ap (unlike_at square) is.laid ∙ same_square square in
     ap₂ option_or parts (ap (laid_refusal square) read)
     ∙ ap₂ (λ (a b : Option ListError). cond (is_some a || is_some b) (Some (Unlike 0)) (option_map Unlike (unlike_at square (square_of_list list)))) is.taken is.fits
@@ -113,17 +113,17 @@ laid_parts None (Some e) o h = absurd cc
 laid_parts (Some e) b o h = absurd cc
 
 -- what was laid out as the square is its list, in the one spelling
-pub is_back : (square : SquareShares) (transactions : List (List ℕ)) → laid_refusal square transactions ≡ None → transactions ≡ spelled (back_list square)
+pub is_back : (square : SquareShares) (transactions : List (List ℕ)) → laid_refusal square transactions ≡ None → transactions ≡ spelled_list (back_list square)
     → HaveNamedBlobs transactions → IsBack square transactions
 is_back square transactions h read named =
     let list : ListParts = list_of transactions in
-    let p = laid_parts (read_refusal transactions) (size_refusal list) (unlike_at square (square_of_list list)) h in
+    let p = laid_parts (read_refusal transactions) (list_size_refusal list) (unlike_at square (square_of_list list)) h in
     let u = unlike_none square.k (square_of_list list).k (min square.k (square_of_list list).k * min square.k (square_of_list list).k)
     (square.k == (square_of_list list).k) (first_unlike 0 square.shares (square_of_list list).shares) refl p.2 in
     let same : square_of_list list ≡ square =
     ap₂ (λ (k : ℕ) (shares : List Share). record { k = k; shares = shares }) (sym u.0) (sym (same_by 0 square.shares (square_of_list list).shares u.1)) in
     record {
-      canonical = ap spelled (sym (back_of square transactions p.0 p.1 same named)) ∙ sym read;
+      canonical = ap spelled_list (sym (back_of square transactions p.0 p.1 same named)) ∙ sym read;
       taken = p.0;
       fits = p.1;
       laid = same;

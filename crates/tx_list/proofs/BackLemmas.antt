@@ -15,7 +15,7 @@ use Rattle.share_split.specs.Blobs.{NamedBytes, IsNamed, max_sequence_length, ve
 use Rattle.share_split.specs.Units.{unit_text, units_text, unit_shares_of, unit_share_count}
 use Rattle.share_split.specs.Joined.{IsBlob}
 use Rattle.share_split.specs.Joined.Piece.{blob}
-use Rattle.share_split.specs.Walks.{is_signed, fields_in, blobs_from, blobs_of as blobs_read, units_in, units_of}
+use Rattle.share_split.specs.Walks.{is_signed, share_fields, blobs_from, blobs_joined as blobs_read, units_in, units_of}
 use Rattle.share_split.proofs.Reading.Fields.{opening, opening_is_first}
 use Rattle.share_split.proofs.Reading.Signers.{blob_label}
 use Rattle.share_split.proofs.Reading.BlobRead.{pieces_read}
@@ -34,7 +34,7 @@ use Rattle.tx_list.specs.Wrapped.{wrapped, wrap_all}
 use Rattle.tx_list.specs.Unwrapped.{wrapped_places}
 use Rattle.tx_list.specs.Reserves.{list_reserve, list_bound}
 use Rattle.tx_list.specs.Places.{places_from, ordered}
-use Rattle.tx_list.specs.Lists.{list_places, written, plan_of_list, square_of_list}
+use Rattle.tx_list.specs.Lists.{list_places, written_list, plan_of_list, square_of_list}
 use Rattle.tx_list.specs.BackRefusals.{first_front, second_front, front_refusal, front_units, stated_count, sequence_at, one_blob, blob_at, blobs_at, places_refusal, payment_at, wrapper_refusal, wrappers_refusal, back_list, part_refusal}
 use Rattle.tx_list.proofs.PlaceLemmas.{length-places_of}
 use Rattle.tx_list.proofs.ListLemmas.{payments_some, payments_named, list_is_low, list_has_room}
@@ -82,7 +82,7 @@ blob_found shares place one is some e =
     let got : slice_get shares place ≡ Some share = get_at shares place share begins.0 begins.1 in
     let label = blob_label one.signer (length one.bytes) (some_bytes (length one.bytes) some) is.signer in
     let first = opening_is_first one.namespace (version_of one.signer) one.signer (length one.bytes) one.bytes is.name.size_is (omega (arith, is.few)) label in
-    let signer : is_signed share ≡ signed = signed_by (is_signed share) (take 20 (fields_in share)) ∙ ap is_some first.signer_is in
+    let signer : is_signed share ≡ signed = signed_by (is_signed share) (take 20 (share_fields share)) ∙ ap is_some first.signer_is in
     let count : stated_count share ≡ share_count_of one = ap₂ share_count first.size_is signer in
     let sequence : sequence_at shares place ≡ blob_shares_of one.namespace one.signer one.bytes =
     ap (λ (o : Option Share). option_map_or (λ s. take (stated_count s) (drop place shares)) o []) got
@@ -261,23 +261,23 @@ plain_back list is =
     ∙ units_back transaction list.units (low_is_namespace 1 (omega arith)) (omega (arith, list_has_room list is.few, is.few))
 
 -- and its payments, as they are written
-written_back : (list : ListParts) → IsLaidList list → units_of (second_front (square_of_list list).shares) ≡ Ok (written list)
+written_back : (list : ListParts) → IsLaidList list → units_of (second_front (square_of_list list).shares) ≡ Ok (written_list list)
 written_back list is =
     ap units_of (second_front_is (plan_of_list list) (payments_named list.payments is.payments))
-    ∙ units_back pay_for_blob (written list) (low_is_namespace 4 (omega arith)) (omega (arith, list_has_room list is.few, is.few))
+    ∙ units_back pay_for_blob (written_list list) (low_is_namespace 4 (omega arith)) (omega (arith, list_has_room list is.few, is.few))
 
 pub low-small : (places : List ℕ) → AllByRecursion (λ place. place < max_shares) places → AllByRecursion (λ place. place < 2 ^ 32) places
 low-small [] all = tt
 low-small (place ∷ places) all = (omega (arith, all.0), low-small places all.1)
 
-all_back : (list : ListParts) → IsLaidList list → AreBack 0 (square_of_list list).shares list.payments (written list)
+all_back : (list : ListParts) → IsLaidList list → AreBack 0 (square_of_list list).shares list.payments (written_list list)
 all_back list is =
     let blobs : List NamedBytes = blobs_of list.payments in
     let some = payments_some list.payments is.payments in
     let are : AllByRecursion IsBlob blobs = blobs_held blobs is.named some (omega (arith, is.few)) in
     let at : AreAt (square_of_list list).shares (list_places list) blobs = at_from list [] blobs is.few refl are some in
     payments_back 0 (square_of_list list).shares list.payments (list_places list) at is.payments (low-small (list_places list) (list_is_low list is.few))
-    (text_few (written list) (omega (arith, list_has_room list is.few, is.few)))
+    (text_few (written_list list) (omega (arith, list_has_room list is.few, is.few)))
 
 -- its square is read as it
 pub list_back : (list : ListParts) → IsLaidList list → back_list (square_of_list list) ≡ list

@@ -5,7 +5,7 @@ use Rattle.std.specs.Prelude.{option_map, IsSome, IfSome}
 use Rattle.std.proofs.lemmas.Bool.{true≢false}
 use Rattle.proto_fields.specs.Fields.{ValueParts, number_value, bytes_value, other_value, FieldParts, field_at, fields_of, bytes_of, own_bytes, all_bytes}
 use Rattle.proto_fields.proofs.FieldLemmas.{first_field, still_fields}
-use Rattle.tx_list.specs.Reads.{are_fields, entries_of}
+use Rattle.tx_list.specs.Reads.{are_fields, payment_entries}
 use Rattle.tx_list.specs.Walks.{bytes_value_of}
 
 -- ---- one field
@@ -48,7 +48,7 @@ fields_step : (bytes rest : List ℕ) (field : FieldParts) → field_at bytes �
 fields_step bytes rest field at h = still_fields bytes rest field at ∙ h
 
 pub entries_step : (bytes rest : List ℕ) (field : FieldParts) → field_at bytes ≡ Some (field, rest) → are_fields bytes ≡ true
-    → entries_of bytes ≡ own_bytes 2 field ++ entries_of rest
+    → payment_entries bytes ≡ own_bytes 2 field ++ payment_entries rest
 entries_step bytes rest field at h =
     all_cons field (fields_of rest) (fields_of bytes) (fields_step bytes rest field at h) (first_field bytes rest field at)
 

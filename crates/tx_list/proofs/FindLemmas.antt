@@ -13,7 +13,7 @@ use Rattle.share_split.specs.declared.joining.JoinError.{JoinError}
 use Rattle.share_split.specs.Blobs.{NamedBytes, signer_size, signer_bytes}
 use Rattle.share_split.specs.Joined.{Piece, IsBlob, IsPiece, piece_blobs, AreBlobs}
 use Rattle.share_split.specs.Joined.Piece.{padding, blob}
-use Rattle.share_split.specs.Walks.{blobs_of as blobs_read}
+use Rattle.share_split.specs.Walks.{blobs_joined as blobs_read}
 use Rattle.share_split.proofs.Reading.JoinLaws.{blobs_law}
 use Rattle.square_layout.specs.Blocks.{HaveBytes}
 use Rattle.tx_list.specs.Wrapped.{some_field}

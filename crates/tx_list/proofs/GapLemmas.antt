@@ -16,7 +16,7 @@ use Rattle.share_split.specs.Joined.{padding_of, padding_share}
 use Rattle.square_layout.specs.declared.laying.LayError.TheVariants.{BadBlob, EmptyBlob, TooLarge, WidthTooSmall, BadWidth}
 use Rattle.square_layout.specs.Blocks.{BlockParts, HaveBytes, IsSquare}
 use Rattle.square_layout.specs.Layout.{in_order, share_count_of, start_after, end_of, gap_behind, placed_behind, compact_end, laid, needed}
-use Rattle.square_layout.specs.Refusals.{max_shares, max_count, bad_blob, empty_blob, width_refusal, size_refusal as block_size_refusal}
+use Rattle.square_layout.specs.Refusals.{max_shares, most_told, bad_blob, empty_blob, width_refusal, size_refusal as block_size_refusal}
 use Rattle.square_layout.specs.Plans.{PlanParts, front, lead, planned, plan_width}
 use Rattle.square_layout.proofs.AcceptedLemmas.{accepted_is}
 use Rattle.square_layout.proofs.LaidLemmas.{needed_is, square_fits}
@@ -25,7 +25,7 @@ use Rattle.tx_list.specs.Payments.{PaymentParts, ListParts, blobs_of, IsPayment}
 use Rattle.tx_list.specs.Wrapped.{wrap_all}
 use Rattle.tx_list.specs.Reserves.{list_reserve}
 use Rattle.tx_list.specs.Lists.{plan_of_list, block_of_list, square_of_list}
-use Rattle.tx_list.specs.Refusals.{size_refusal}
+use Rattle.tx_list.specs.Refusals.{list_size_refusal}
 use Rattle.tx_list.specs.Gaps.{HaveNoSignedGap, HasNoSignedGap, TakesReserve, IsSquareOfBlock}
 use Rattle.tx_list.proofs.ListLemmas.{payments_some, payments_named}
 use Rattle.tx_list.proofs.SquareLemmas.{list_is_square}
@@ -134,7 +134,7 @@ no_empty_blob i (blob ∷ blobs) some =
 -- a width that holds so many shares isn't refused
 size_passes : (k count : ℕ) → is_width k ≡ true → count ≤ k * k → block_size_refusal (Some k) count ≡ None
 size_passes k count width fits =
-    ap (λ (b : Bool). cond b (Some (TooLarge (min count max_count))) (width_refusal count k))
+    ap (λ (b : Bool). cond b (Some (TooLarge (min count most_told))) (width_refusal count k))
     (le-ltb max_shares count (omega (arith, fits, square_fits k width)))
     ∙ ap₂ (λ (a b : Bool). cond a (Some (WidthTooSmall count)) (cond b None (Some BadWidth))) (le-ltb (k * k) count fits) width
 
@@ -153,7 +153,7 @@ laid_fits list square =
 -- ---- the square of a block
 
 -- the square of such a list is that of its block
-pub square_of_block : (list : ListParts) → AllByRecursion IsPayment list.payments → size_refusal list ≡ None → TakesReserve list → HasNoSignedGap list
+pub square_of_block : (list : ListParts) → AllByRecursion IsPayment list.payments → list_size_refusal list ≡ None → TakesReserve list → HasNoSignedGap list
     → IsSquareOfBlock list
 square_of_block list payments fits full gapless =
     let plan : PlanParts = plan_of_list list in
@@ -188,7 +188,7 @@ no_gap end blobs none before after signed next signer is has =
     absurd (omega (arith, ap (λ (l : List NamedBytes). length l) (sym none ∙ is), length-append before (signed ∷ next ∷ after)))
 
 -- the square of a list without payments is that of its block
-pub plain_is_block : (list : ListParts) → list.payments ≡ [] → size_refusal list ≡ None → IsSquareOfBlock list
+pub plain_is_block : (list : ListParts) → list.payments ≡ [] → list_size_refusal list ≡ None → IsSquareOfBlock list
 plain_is_block list none fits =
     square_of_block list (subst (AllByRecursion IsPayment) (sym none) tt) fits
     (ap unit_share_count (none_wrapped list.payments _ _ none))

@@ -12,9 +12,9 @@ use Rattle.tx_list.specs.declared.refusals.ListError.{ListError}
 use Rattle.tx_list.specs.declared.refusals.ListError.TheVariants.{Behind, NoBlobs}
 use Rattle.tx_list.specs.declared.checking.Checked.{Checked}
 use Rattle.tx_list.specs.declared.checking.Judged.TheVariants as judged
-use Rattle.tx_list.specs.Reads.{are_fields, fields_in, entries_of, is_payment, StatedBlob, stated}
+use Rattle.tx_list.specs.Reads.{are_fields, fields_in, payment_entries, is_payment, StatedBlob, stated}
 use Rattle.tx_list.specs.ReadRefusals.{blob_refusal, blobs_refusal, payment_refusal, transaction_refusal, transactions_refusal, read_refusal}
-use Rattle.tx_list.specs.Walks.{with_checked, with_entry, with_entries, judgement, judged_of}
+use Rattle.tx_list.specs.Walks.{with_checked, with_one_blob, with_entries, judgement, judged_fields}
 use Rattle.tx_list.proofs.CheckLemmas.{transactions_none}
 use Rattle.tx_list.proofs.TakingLemmas.{or_none}
 use Rattle.tx_list.proofs.KeptLemmas.{IsKept, kept_stops, fields_stop, last_stops}
@@ -27,12 +27,12 @@ unfolding with_entries
 with-none i checked = refl
 
 -- one more
-pub with-one : (i : ℕ) (checked : Checked) (entry : List ℕ) → with_entries i checked (entry ∷ []) ≡ with_entry i checked entry
+pub with-one : (i : ℕ) (checked : Checked) (entry : List ℕ) → with_entries i checked (entry ∷ []) ≡ with_one_blob i checked entry
 unfolding with_entries
 with-one i checked entry = refl
 
 with-cons : (i : ℕ) (checked : Checked) (entry : List ℕ) (entries : List (List ℕ))
-    → with_entries i checked (entry ∷ entries) ≡ with_entries i (with_entry i checked entry) entries
+    → with_entries i checked (entry ∷ entries) ≡ with_entries i (with_one_blob i checked entry) entries
 unfolding with_entries
 with-cons i checked entry entries = refl
 
@@ -42,14 +42,14 @@ pub with-append : (i : ℕ) (checked : Checked) (some others : List (List ℕ))
 with-append i checked [] others = ap (λ (c : Checked). with_entries i c others) (sym (with-none i checked))
 with-append i checked (entry ∷ some) others =
     with-cons i checked entry (some ++ others)
-    ∙ with-append i (with_entry i checked entry) some others
+    ∙ with-append i (with_one_blob i checked entry) some others
     ∙ ap (λ (c : Checked). with_entries i c others) (sym (with-cons i checked entry some))
 
 -- each one counts
 pub with-count : (i : ℕ) (checked : Checked) (entries : List (List ℕ)) → (with_entries i checked entries).count ≡ checked.count + length entries
 with-count i checked [] = ap (λ (c : Checked). c.count) (with-none i checked) ∙ omega arith
 with-count i checked (entry ∷ entries) =
-    let more = with-count i (with_entry i checked entry) entries in
+    let more = with-count i (with_one_blob i checked entry) entries in
     ap (λ (c : Checked). c.count) (with-cons i checked entry entries) ∙ more ∙ omega arith
 
 -- they are fields where each one is
@@ -66,7 +66,7 @@ pub with-fields : (i : ℕ) (checked : Checked) (entries : List (List ℕ))
 with-fields i checked [] = ap (λ (c : Checked). c.are_fields) (with-none i checked) ∙ sym (and_none checked.are_fields)
 with-fields i checked (entry ∷ entries) =
     ap (λ (c : Checked). c.are_fields) (with-cons i checked entry entries)
-    ∙ with-fields i (with_entry i checked entry) entries
+    ∙ with-fields i (with_one_blob i checked entry) entries
     ∙ and_again checked.are_fields (are_fields entry) (list_all are_fields entries)
 
 -- the first refusal counts, where all are fields
@@ -88,7 +88,7 @@ unfolding blobs_refusal
 blobs-cons i j entry entries = refl
 
 refusal_of : (i : ℕ) (checked : Checked) (entry : List ℕ) → are_fields entry ≡ true
-    → (with_entry i checked entry).refusal ≡ option_or checked.refusal (blob_refusal i checked.count (stated entry))
+    → (with_one_blob i checked entry).refusal ≡ option_or checked.refusal (blob_refusal i checked.count (stated entry))
 refusal_of i checked entry is = ap (λ (b : Bool). if b then option_or checked.refusal (blob_refusal i checked.count (stated entry)) else checked.refusal) is
 
 pub with-refusal : (i : ℕ) (checked : Checked) (entries : List (List ℕ)) → list_all are_fields entries ≡ true
@@ -100,7 +100,7 @@ with-refusal i checked [] all =
 with-refusal i checked (entry ∷ entries) all =
     let both = and_parts (are_fields entry) (list_all are_fields entries) all in
     ap (λ (c : Checked). c.refusal) (with-cons i checked entry entries)
-    ∙ with-refusal i (with_entry i checked entry) entries both.1
+    ∙ with-refusal i (with_one_blob i checked entry) entries both.1
     ∙ ap (λ (why : Option ListError). option_or why (blobs_refusal i (suc checked.count) entries)) (refusal_of i checked entry both.0)
     ∙ or_again checked.refusal (blob_refusal i checked.count (stated entry)) (blobs_refusal i (suc checked.count) entries)
     ∙ ap (option_or checked.refusal) (sym (blobs-cons i checked.count entry entries))
@@ -118,28 +118,28 @@ checked_fields i checked entries is = ap (λ (c : Checked). c.are_fields) is ∙
 
 -- whether it is a payment
 pub judge_test : (i : ℕ) (bytes type_id : List ℕ) (checked : Checked) (none_left : Bool) → none_left ≡ are_fields bytes
-    → (are_fields bytes ≡ true → type_id ≡ last_bytes 3 (fields_in bytes)) → (are_fields bytes ≡ true → checked ≡ with_entries i unchecked (entries_of bytes))
+    → (are_fields bytes ≡ true → type_id ≡ last_bytes 3 (fields_in bytes)) → (are_fields bytes ≡ true → checked ≡ with_entries i unchecked (payment_entries bytes))
     → is_payment bytes ≡ (none_left && bytes_eq type_id (codes "BLOB") && checked.are_fields)
 judge_test i bytes type_id checked true is typed looked =
     let fine : are_fields bytes ≡ true = sym is in
-    ap (λ (b : Bool). b && bytes_eq (last_bytes 3 (fields_in bytes)) (codes "BLOB") && list_all are_fields (entries_of bytes)) fine
-    ∙ ap (λ (l : List ℕ). true && bytes_eq l (codes "BLOB") && list_all are_fields (entries_of bytes)) (sym (typed fine))
-    ∙ ap (λ (b : Bool). true && bytes_eq type_id (codes "BLOB") && b) (sym (checked_fields i checked (entries_of bytes) (looked fine)))
+    ap (λ (b : Bool). b && bytes_eq (last_bytes 3 (fields_in bytes)) (codes "BLOB") && list_all are_fields (payment_entries bytes)) fine
+    ∙ ap (λ (l : List ℕ). true && bytes_eq l (codes "BLOB") && list_all are_fields (payment_entries bytes)) (sym (typed fine))
+    ∙ ap (λ (b : Bool). true && bytes_eq type_id (codes "BLOB") && b) (sym (checked_fields i checked (payment_entries bytes) (looked fine)))
 judge_test i bytes type_id checked false is typed looked =
-    ap (λ (b : Bool). b && bytes_eq (last_bytes 3 (fields_in bytes)) (codes "BLOB") && list_all are_fields (entries_of bytes)) (sym is)
+    ap (λ (b : Bool). b && bytes_eq (last_bytes 3 (fields_in bytes)) (codes "BLOB") && list_all are_fields (payment_entries bytes)) (sym is)
 
 -- it isn't
 pub judged_plain : (i : ℕ) (bytes : List ℕ) → is_payment bytes ≡ false → judged.Plain ≡ judgement i bytes
-judged_plain i bytes is = sym (ap (λ (b : Bool). if b then judged.Payment (payment_refusal i (entries_of bytes)) else judged.Plain) is)
+judged_plain i bytes is = sym (ap (λ (b : Bool). if b then judged.Payment (payment_refusal i (payment_entries bytes)) else judged.Plain) is)
 
 -- it is, and is refused so
 pub judged_payment : (i : ℕ) (bytes : List ℕ) (checked : Checked) (why : Option ListError) → is_payment bytes ≡ true
-    → (are_fields bytes ≡ true → checked ≡ with_entries i unchecked (entries_of bytes))
+    → (are_fields bytes ≡ true → checked ≡ with_entries i unchecked (payment_entries bytes))
     → why ≡ (if checked.count == 0 then Some (NoBlobs i) else checked.refusal) → judged.Payment why ≡ judgement i bytes
 judged_payment i bytes checked why is looked says =
-    let all = and_parts (are_fields bytes && bytes_eq (last_bytes 3 (fields_in bytes)) (codes "BLOB")) (list_all are_fields (entries_of bytes)) is in
+    let all = and_parts (are_fields bytes && bytes_eq (last_bytes 3 (fields_in bytes)) (codes "BLOB")) (list_all are_fields (payment_entries bytes)) is in
     let fine = (and_parts (are_fields bytes) (bytes_eq (last_bytes 3 (fields_in bytes)) (codes "BLOB")) all.0).0 in
-    let entries = entries_of bytes in
+    let entries = payment_entries bytes in
     let count : checked.count ≡ length entries = omega (arith, ap (λ (c : Checked). c.count) (looked fine), with-count i unchecked entries) in
     let refusal : checked.refusal ≡ blobs_refusal i 0 entries = ap (λ (c : Checked). c.refusal) (looked fine) ∙ with-refusal i unchecked entries all.1 in
     ap judged.Payment (says
@@ -156,7 +156,7 @@ with_why checked fine why = record { count = suc checked.count; are_fields = che
 -- where no field is left the blobs that were checked are all
 pub walk_checked : (i : ℕ) (bytes rest : List ℕ) (checked : Checked) → are_fields rest ≡ are_fields bytes
     → IsKept (with_entries i) (own_bytes 2) unchecked checked bytes rest → field_at rest ≡ None
-    → are_fields bytes ≡ true → checked ≡ with_entries i unchecked (entries_of bytes)
+    → are_fields bytes ≡ true → checked ≡ with_entries i unchecked (payment_entries bytes)
 walk_checked i bytes rest checked same kept none fine =
     kept_stops (with_entries i) (with-none i) (own_bytes 2) unchecked checked bytes rest same kept none fine
 
@@ -171,14 +171,14 @@ walk_test i bytes rest type_id checked same typed kept none =
 
 -- so what the walk tells is what the transaction is
 judged_where : (i : ℕ) (bytes : List ℕ) (checked : Checked) (b : Bool) → is_payment bytes ≡ b
-    → (are_fields bytes ≡ true → checked ≡ with_entries i unchecked (entries_of bytes))
+    → (are_fields bytes ≡ true → checked ≡ with_entries i unchecked (payment_entries bytes))
     → (if b then judged.Payment (if checked.count == 0 then Some (NoBlobs i) else checked.refusal) else judged.Plain) ≡ judgement i bytes
 judged_where i bytes checked true is looked = judged_payment i bytes checked (if checked.count == 0 then Some (NoBlobs i) else checked.refusal) is looked refl
 judged_where i bytes checked false is looked = judged_plain i bytes is
 
 pub walk_judged : (i : ℕ) (bytes rest type_id : List ℕ) (checked : Checked) → are_fields rest ≡ are_fields bytes
     → IsKept last_of (own_bytes 3) [] type_id bytes rest → IsKept (with_entries i) (own_bytes 2) unchecked checked bytes rest → field_at rest ≡ None
-    → judged_of i rest type_id checked ≡ judgement i bytes
+    → judged_fields i rest type_id checked ≡ judgement i bytes
 walk_judged i bytes rest type_id checked same typed kept none =
     judged_where i bytes checked ((length rest == 0) && bytes_eq type_id (codes "BLOB") && checked.are_fields)
     (walk_test i bytes rest type_id checked same typed kept none) (walk_checked i bytes rest checked same kept none)
@@ -190,7 +190,7 @@ checked_by true i checked refusal = refl
 checked_by false i checked refusal = or_nothing checked.refusal
 
 pub checked_is : (i : ℕ) (checked : Checked) (entry : List ℕ)
-    → with_checked checked (are_fields entry) (if are_fields entry then blob_refusal i checked.count (stated entry) else None) ≡ with_entry i checked entry
+    → with_checked checked (are_fields entry) (if are_fields entry then blob_refusal i checked.count (stated entry) else None) ≡ with_one_blob i checked entry
 checked_is i checked entry =
     ap (λ (why : Option ListError). with_why checked (are_fields entry) why) (checked_by (are_fields entry) i checked (blob_refusal i checked.count (stated entry)))
 
@@ -202,7 +202,7 @@ refusal_stated i j entry blob false same is = ap (λ (b : Bool). if b then blob_
 
 pub entry_checked : (i : ℕ) (checked : Checked) (entry : List ℕ) (blob : StatedBlob) (fine : Bool) (refusal : Option ListError) → fine ≡ are_fields entry
     → (are_fields entry ≡ true → blob ≡ stated entry) → refusal ≡ (if fine then blob_refusal i checked.count blob else None)
-    → with_checked checked fine refusal ≡ with_entry i checked entry
+    → with_checked checked fine refusal ≡ with_one_blob i checked entry
 entry_checked i checked entry blob fine refusal same is says =
     ap (λ (why : Option ListError). with_checked checked fine why) (says ∙ refusal_stated i checked.count entry blob fine same is)
     ∙ ap (λ (b : Bool). with_checked checked b (if are_fields entry then blob_refusal i checked.count (stated entry) else None)) same
@@ -233,7 +233,7 @@ all_paid i (one ∷ others) h =
     let both = or_none (transaction_refusal i true one) (transactions_refusal (suc i) true others) h in
     let rest = all_paid (suc i) others both.1 in
     paid_step (is_payment one) one others (filter (λ one. not (is_payment one)) others) (filter is_payment others)
-    (is_paid (is_payment one) (payment_refusal i (entries_of one)) (Behind i) both.0) rest.0 rest.1
+    (is_paid (is_payment one) (payment_refusal i (payment_entries one)) (Behind i) both.0) rest.0 rest.1
 
 -- one in front of others
 front_step : (b : Bool) (one : List ℕ) (others plain paid : List (List ℕ)) → (b ≡ true → (plain ≡ []) × (paid ≡ others))
@@ -277,7 +277,7 @@ paid_by false i plain refusal few h =
 
 pub paid_next : (i plain : ℕ) (one : List ℕ) → plain ≤ i → transaction_refusal i (nat_lt plain i) one ≡ None
     → (nat_lt plain i || is_payment one) ≡ nat_lt (if is_payment one then plain else plain + 1) (i + 1)
-paid_next i plain one few h = paid_by (is_payment one) i plain (payment_refusal i (entries_of one)) few h
+paid_next i plain one few h = paid_by (is_payment one) i plain (payment_refusal i (payment_entries one)) few h
 
 -- a plain one is counted
 count_by : (b : Bool) (plain : ℕ) (one : List ℕ) (others : List (List ℕ))

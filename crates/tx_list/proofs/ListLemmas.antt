@@ -9,7 +9,7 @@ use Rattle.share_split.specs.Blobs.{NamedBytes, count_from}
 use Rattle.share_split.specs.Units.{unit_share_count}
 use Rattle.square_layout.specs.Blocks.{BlockParts, HaveBytes}
 use Rattle.square_layout.specs.Layout.{in_order, share_count_of, start_after, end_of, laid}
-use Rattle.square_layout.specs.Refusals.{max_shares, max_count}
+use Rattle.square_layout.specs.Refusals.{max_shares, most_told}
 use Rattle.square_layout.specs.Plans.{PlanParts, starts_after, blobs_bound, planned, plan_width, square_of_plan}
 use Rattle.square_layout.proofs.PlaceLemmas.{end_of-ge}
 use Rattle.square_layout.proofs.PlanLemmas.{plan_in, end_of-bound, most-in_order, planned_is_laid}
@@ -17,8 +17,8 @@ use Rattle.square_layout.proofs.AcceptedLemmas.{blobs_between}
 use Rattle.square_layout.proofs.NameLemmas.{plan_names_rise}
 use Rattle.tx_list.specs.Payments.{PaymentParts, ListParts, blobs_of, IsLayable, IsPayment}
 use Rattle.tx_list.specs.Reserves.{full_place, wrap_full, list_reserve, list_bound}
-use Rattle.tx_list.specs.Places.{Numbered, Place, places_from, place_of, places_of, ordered}
-use Rattle.tx_list.specs.Lists.{list_places, written, plan_of_list, block_of_list, square_of_list}
+use Rattle.tx_list.specs.Places.{Numbered, BlobPlace, places_from, place_of, places_of, ordered}
+use Rattle.tx_list.specs.Lists.{list_places, written_list, plan_of_list, block_of_list, square_of_list}
 use Rattle.tx_list.specs.Steps.{unnumbered}
 use Rattle.tx_list.proofs.PlaceLemmas.{numbered_in_order, length-places_of}
 use Rattle.tx_list.proofs.ReserveLemmas.{at_most_full, shares-le}
@@ -70,7 +70,7 @@ places_from-below end most (one ∷ others) h =
     let next : ℕ = start_after end one.blob + share_count_of one.blob in
     (omega (arith, h, end_of-ge next (unnumbered others), count_of-some one.blob), places_from-below next most others h)
 
-place_of-below : (found i most : ℕ) (places : List Place) → found < most → AllByRecursion (λ place. place.start < most) places
+place_of-below : (found i most : ℕ) (places : List BlobPlace) → found < most → AllByRecursion (λ place. place.start < most) places
     → place_of found i places < most
 unfolding place_of
 place_of-below found i most [] low all = low
@@ -78,7 +78,7 @@ place_of-below found i most (place ∷ places) low all =
     place_of-below (if place.number == i then place.start else found) i most places
     (elim (place.number == i) as (λ b. (if b then place.start else found) < most) [ true ↦ all.0 | false ↦ low ]) all.1
 
-places_of-below : (i count most : ℕ) (places : List Place) → 0 < most → AllByRecursion (λ place. place.start < most) places
+places_of-below : (i count most : ℕ) (places : List BlobPlace) → 0 < most → AllByRecursion (λ place. place.start < most) places
     → AllByRecursion (λ n. n < most) (places_of i count places)
 unfolding places_of
 places_of-below i zero most places some all = tt
@@ -90,7 +90,7 @@ pub ends_within : (reserve : ℕ) (blobs : List NamedBytes) → end_of reserve (
 ends_within reserve blobs = omega (arith, end_of-bound reserve (in_order blobs), most-in_order blobs)
 
 -- so they fit where that is few
-pub ends_fit : (reserve most : ℕ) (blobs : List NamedBytes) → most ≡ min (reserve + blobs_bound blobs) max_count → most ≤ max_shares
+pub ends_fit : (reserve most : ℕ) (blobs : List NamedBytes) → most ≡ min (reserve + blobs_bound blobs) most_told → most ≤ max_shares
     → end_of reserve (in_order blobs) ≤ max_shares
 ends_fit reserve most blobs is few = omega (arith, ends_within reserve blobs, is, few)
 
@@ -105,7 +105,7 @@ list_is_low list few =
 
 -- so its compact shares end at or before the place before which no blob starts
 pub list_has_room : (list : ListParts) → list_bound list ≤ max_shares
-    → unit_share_count list.units + unit_share_count (written list) ≤ list_reserve list
+    → unit_share_count list.units + unit_share_count (written_list list) ≤ list_reserve list
 list_has_room list few =
     let blobs : List NamedBytes = blobs_of list.payments in
     let low = at_most_full (list_places list) (length blobs) (length-places_of 0 (length blobs) (places_from (list_reserve list) (ordered blobs))) (list_is_low list few) in
@@ -114,7 +114,7 @@ list_has_room list few =
 -- ---- the square
 
 -- what is planned is the square of the list
-pub plan_same : (list : ListParts) (units pay_units : List (List ℕ)) (blobs : List NamedBytes) (reserve : ℕ) → units ≡ list.units → pay_units ≡ written list
+pub plan_same : (list : ListParts) (units pay_units : List (List ℕ)) (blobs : List NamedBytes) (reserve : ℕ) → units ≡ list.units → pay_units ≡ written_list list
     → blobs ≡ blobs_of list.payments → reserve ≡ list_reserve list → square_of_plan (plan_in units pay_units blobs reserve) ≡ square_of_list list
 plan_same list units pay_units blobs reserve u p b r = λ i. square_of_plan (plan_in (u i) (p i) (b i) (r i))
 
@@ -135,9 +135,9 @@ pub starts_are : (end : ℕ) (blobs : List NamedBytes) → map (λ place. place.
 starts_are end blobs = places_are_starts end (ordered blobs) ∙ ap (starts_after end) (numbered_in_order blobs)
 
 -- a list without signers, whose payments take as many compact shares as are reserved, is laid out as a block
-pub list_is_block : (list : ListParts) → unit_share_count (written list) ≡ unit_share_count (wrap_full list.payments)
+pub list_is_block : (list : ListParts) → unit_share_count (written_list list) ≡ unit_share_count (wrap_full list.payments)
     → AllByRecursion (λ blob. blob.signer ≡ None) (blobs_of list.payments) → planned (plan_of_list list) ≡ laid (block_of_list list)
 list_is_block list full none =
     let block : BlockParts = block_of_list list in
-    let reserve : list_reserve list ≡ unit_share_count list.units + unit_share_count (written list) = ap (λ (n : ℕ). unit_share_count list.units + n) (sym full) in
-    ap (λ (r : ℕ). planned (plan_in list.units (written list) (blobs_of list.payments) r)) reserve ∙ planned_is_laid block none
+    let reserve : list_reserve list ≡ unit_share_count list.units + unit_share_count (written_list list) = ap (λ (n : ℕ). unit_share_count list.units + n) (sym full) in
+    ap (λ (r : ℕ). planned (plan_in list.units (written_list list) (blobs_of list.payments) r)) reserve ∙ planned_is_laid block none

@@ -15,7 +15,7 @@ use Rattle.square_layout.proofs.SortingLemmas.{put_by, order_by}
 use Rattle.square_layout.proofs.BlobOrderLemmas.{at_most_by, sorted_by_name, All-in_order}
 use Rattle.tx_list.specs.declared.placing.NumberedBlob.{NumberedBlob}
 use Rattle.tx_list.specs.Steps.{numbered, unnumbered, put_places}
-use Rattle.tx_list.specs.Places.{Numbered, numbered_from, put_numbered, order_numbered, Place, places_from, place_of, places_of, ordered}
+use Rattle.tx_list.specs.Places.{Numbered, numbered_from, put_numbered, order_numbered, BlobPlace, places_from, place_of, places_of, ordered}
 
 -- ---- lists that are walked
 
@@ -159,14 +159,14 @@ fits-next end most one left others is h =
 
 -- ---- places that are written at their numbers
 
-pub length-put_places : (places : List Place) (starts : List ℕ) → length (put_places places starts) ≡ length starts
+pub length-put_places : (places : List BlobPlace) (starts : List ℕ) → length (put_places places starts) ≡ length starts
 unfolding put_places
 length-put_places [] starts = refl
 length-put_places (place ∷ places) starts =
     length-put_places places (set starts place.number place.start) ∙ length-set starts place.number place.start
 
 -- a place at a number, after one was written
-set-at : (i : ℕ) (place : Place) (starts : List ℕ) → i < length starts
+set-at : (i : ℕ) (place : BlobPlace) (starts : List ℕ) → i < length starts
     → get_or (set starts place.number place.start) i 0 ≡ (if place.number == i then place.start else get_or starts i 0)
 set-at i place starts h = elim (cases_Bool (place.number == i)) [
   | inl same ↦ (let e : place.number ≡ i = eqb-true place.number i same in
@@ -176,7 +176,7 @@ set-at i place starts h = elim (cases_Bool (place.number == i)) [
 ]
 
 -- after all were written it is the place beside the number
-put_places-at : (i : ℕ) (places : List Place) (starts : List ℕ) → i < length starts
+put_places-at : (i : ℕ) (places : List BlobPlace) (starts : List ℕ) → i < length starts
     → get_or (put_places places starts) i 0 ≡ place_of (get_or starts i 0) i places
 unfolding put_places place_of
 put_places-at i [] starts h = refl
@@ -184,12 +184,12 @@ put_places-at i (place ∷ places) starts h =
     put_places-at i places (set starts place.number place.start) (omega (arith, h, length-set starts place.number place.start))
     ∙ ap (λ (found : ℕ). place_of found i places) (set-at i place starts h)
 
-pub length-places_of : (i count : ℕ) (places : List Place) → length (places_of i count places) ≡ count
+pub length-places_of : (i count : ℕ) (places : List BlobPlace) → length (places_of i count places) ≡ count
 unfolding places_of
 length-places_of i zero places = refl
 length-places_of i (suc count) places = ap suc (length-places_of (suc i) count places)
 
-pub get_or-places_of : (i count j : ℕ) (places : List Place) → j < count → get_or (places_of i count places) j 0 ≡ place_of 0 (i + j) places
+pub get_or-places_of : (i count j : ℕ) (places : List BlobPlace) → j < count → get_or (places_of i count places) j 0 ≡ place_of 0 (i + j) places
 unfolding places_of
 get_or-places_of i zero j places h = absurd (omega (arith, h))
 get_or-places_of i (suc count) zero places h = ap (λ (n : ℕ). place_of 0 n places) (omega arith)
@@ -197,7 +197,7 @@ get_or-places_of i (suc count) (suc j) places h =
     get_or-places_of (suc i) count j places (omega (arith, h)) ∙ ap (λ (n : ℕ). place_of 0 n places) (omega arith)
 
 -- so all places are those beside their numbers
-pub put_places_are : (count : ℕ) (places : List Place) → put_places places (replicate count 0) ≡ places_of 0 count places
+pub put_places_are : (count : ℕ) (places : List BlobPlace) → put_places places (replicate count 0) ≡ places_of 0 count places
 put_places_are count places =
     let zeros : List ℕ = replicate count 0 in
     let size : length zeros ≡ count = length-replicate {A = ℕ} count 0 in

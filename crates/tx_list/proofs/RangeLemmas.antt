@@ -13,7 +13,7 @@ use Rattle.share_split.specs.Units.{unit_text, units_text}
 use Rattle.share_split.specs.Joined.{padding_share, IsBlob}
 use Rattle.share_split.proofs.Writing.BlobLaws.{length-blob_shares_of}
 use Rattle.square_layout.specs.Layout.{share_count_of, end_of}
-use Rattle.square_layout.specs.Refusals.{max_shares, max_count}
+use Rattle.square_layout.specs.Refusals.{max_shares, most_told}
 use Rattle.square_layout.specs.Plans.{PlanParts, front, planned, plan_width}
 use Rattle.square_layout.proofs.LeastWidthLemmas.{holding_holds}
 use Rattle.square_layout.proofs.PlanLemmas.{length-front, planned_fits}
@@ -22,8 +22,8 @@ use Rattle.tx_list.specs.declared.refusals.ListError.TheVariants.{TooLarge}
 use Rattle.tx_list.specs.Payments.{PaymentParts, ListParts, blobs_of, IsPayment}
 use Rattle.tx_list.specs.Wrapped.{wrapped, wrap_all}
 use Rattle.tx_list.specs.Reserves.{list_reserve, list_bound}
-use Rattle.tx_list.specs.Refusals.{size_refusal}
-use Rattle.tx_list.specs.Lists.{list_places, written, plan_of_list, square_of_list}
+use Rattle.tx_list.specs.Refusals.{list_size_refusal}
+use Rattle.tx_list.specs.Lists.{list_places, written_list, plan_of_list, square_of_list}
 use Rattle.tx_list.specs.Ranges.{StatesPlaces, IsStart, IsRangeOf}
 use Rattle.tx_list.proofs.ListLemmas.{payments_some, list_is_low, list_has_room}
 use Rattle.tx_list.proofs.StandingLemmas as standing
@@ -68,9 +68,9 @@ pub places_stated : (list : ListParts) (earlier later : List PaymentParts) (paym
 places_stated list earlier later payment few is =
     let places : List ℕ = list_places list in
     let own : List ℕ = take (length payment.blobs) (drop (length (blobs_of earlier)) places) in
-    let one : IsWrapped (written list) places earlier payment =
+    let one : IsWrapped (written_list list) places earlier payment =
     subst (λ (l : List PaymentParts). IsWrapped (wrap_all l places) places earlier payment) (sym is) (payment_wrapped earlier later payment places) in
-    let short : length (units_text (written list)) ≤ max_sequence_length = text_few (written list) (omega (arith, list_has_room list few, few)) in
+    let short : length (units_text (written_list list)) ≤ max_sequence_length = text_few (written_list list) (omega (arith, list_has_room list few, few)) in
     let fits : length (wrapped payment.tx own) < 2 ^ 64 = omega (arith, one.within, short) in
     let small : AllByRecursion (λ place. place < 2 ^ 32) own =
     small-take (length payment.blobs) (2 ^ 32) (drop (length (blobs_of earlier)) places)
@@ -120,8 +120,8 @@ range_is_there list before after blob few is =
 
 -- the blobs of a list that isn't refused for its size are blobs
 pub list_blobs : (list : ListParts) → AllByRecursion IsPayment list.payments → AllByRecursion IsNamed (blobs_of list.payments)
-    → size_refusal list ≡ None → AllByRecursion IsBlob (blobs_of list.payments)
+    → list_size_refusal list ≡ None → AllByRecursion IsBlob (blobs_of list.payments)
 list_blobs list payments named fits =
-    let within = if_none (nat_lt max_shares (list_bound list)) (TooLarge (min (list_bound list) max_count)) None fits in
+    let within = if_none (nat_lt max_shares (list_bound list)) (TooLarge (min (list_bound list) most_told)) None fits in
     blobs_held (blobs_of list.payments) named (payments_some list.payments payments)
     (omega (arith, ltb-false max_shares (list_bound list) within.0))

@@ -13,8 +13,8 @@ use Rattle.tx_list.specs.declared.refusals.ListError.{ListError}
 use Rattle.tx_list.specs.declared.refusals.ListError.TheVariants.{Behind, NoBlobs}
 use Rattle.tx_list.specs.Payments.{PaymentParts, ListParts}
 use Rattle.tx_list.specs.Wrapped.{some_field}
-use Rattle.tx_list.specs.Spelled.{blob_spelling, payment_spelling, spelled}
-use Rattle.tx_list.specs.Reads.{are_fields, fields_in, entries_of, is_payment, tx_in, stated, blob_of, payment_of, list_of}
+use Rattle.tx_list.specs.Spelled.{blob_spelling, payment_spelling, spelled_list}
+use Rattle.tx_list.specs.Reads.{are_fields, fields_in, payment_entries, is_payment, tx_in, stated, blob_of, payment_of, list_of}
 use Rattle.tx_list.specs.ReadRefusals.{blobs_refusal, payment_refusal, transaction_refusal, transactions_refusal, read_refusal}
 use Rattle.tx_list.specs.ReadLaws.{HasSpelling, IsSpellable, IsSpellableList}
 use Rattle.tx_list.proofs.SpelledBlobLemmas.{IsStatable, statable, field_of_bytes, bytes_field_alone, some_fields, some_field_alone, blob_spelling_is_fields, blob_is_read, blob_passes}
@@ -125,7 +125,7 @@ blobs_stated payment =
 -- ---- the payment
 
 -- the blobs that it carries
-pub entries_read : (payment : PaymentParts) → IsStatablePayment payment → entries_of (payment_spelling payment) ≡ map blob_spelling payment.blobs
+pub entries_read : (payment : PaymentParts) → IsStatablePayment payment → payment_entries (payment_spelling payment) ≡ map blob_spelling payment.blobs
 entries_read payment is = ap (all_bytes 2) (payment_fields_in payment is) ∙ blobs_stated payment
 
 -- each is fields
@@ -141,7 +141,7 @@ three_hold a b c first second third = rw (first, second, third) refl
 pub statable_is_payment : (payment : PaymentParts) → IsStatablePayment payment → is_payment (payment_spelling payment) ≡ true
 statable_is_payment payment is =
     let bytes : List ℕ = payment_spelling payment in
-    three_hold (are_fields bytes) (bytes_eq (last_bytes 3 (fields_in bytes)) (codes "BLOB")) (list_all are_fields (entries_of bytes))
+    three_hold (are_fields bytes) (bytes_eq (last_bytes 3 (fields_in bytes)) (codes "BLOB")) (list_all are_fields (payment_entries bytes))
     (ap is_some (fields_of_payment payment is))
     (ap (λ (fields : List FieldParts). bytes_eq (last_bytes 3 fields) (codes "BLOB")) (payment_fields_in payment is)
     ∙ ap (λ (id : List ℕ). bytes_eq id (codes "BLOB")) (type_stated payment))
@@ -186,7 +186,7 @@ entries_pass i payment is =
 
 -- what refuses a transaction that is a payment, or isn't
 abbrev transaction_by : ℕ → Bool → Bool → List ℕ → Option ListError
-transaction_by i paid is bytes = if is then payment_refusal i (entries_of bytes) else (if paid then Some (Behind i) else None)
+transaction_by i paid is bytes = if is then payment_refusal i (payment_entries bytes) else (if paid then Some (Behind i) else None)
 
 -- no check of it fails, whatever came before
 payment_passes : (i : ℕ) (paid : Bool) (payment : PaymentParts) → IsSpellable payment → transaction_refusal i paid (payment_spelling payment) ≡ None
@@ -215,7 +215,7 @@ units_pass i (unit ∷ units) payments plain all =
     ∙ units_pass (suc i) units payments plain.1 all
 
 -- no check refuses it
-pub spelled_is_taken : (list : ListParts) → IsSpellableList list → read_refusal (spelled list) ≡ None
+pub spelled_is_taken : (list : ListParts) → IsSpellableList list → read_refusal (spelled_list list) ≡ None
 spelled_is_taken list is = units_pass 0 list.units list.payments is.plain is.payments
 
 -- its units are the plain transactions, and its payments the others
@@ -248,7 +248,7 @@ payments_read (unit ∷ units) payments plain all =
     ap (λ (b : Bool). map payment_of (cond b (unit ∷ others) others)) plain.0 ∙ payments_read units payments plain.1 all
 
 -- it is read back
-pub spelled_is_read : (list : ListParts) → IsSpellableList list → list_of (spelled list) ≡ list
+pub spelled_is_read : (list : ListParts) → IsSpellableList list → list_of (spelled_list list) ≡ list
 spelled_is_read list is =
     ap₂ (λ (units : List (List ℕ)) (payments : List PaymentParts). record { units = units; payments = payments })
     (units_read list.units list.payments is.plain is.payments) (payments_read list.units list.payments is.plain is.payments)

@@ -9,7 +9,7 @@ use Rattle.namespace_id.proofs.StringLemmas.{AreBytes-none, AreBytes-cons, AreBy
 use Rattle.proto_fields.specs.Varints.{varint_within, varint}
 use Rattle.proto_fields.proofs.Varint.Bytes.{varint_within-low, varint_within-high}
 use Rattle.square_layout.specs.Blocks.{IsSquare}
-use Rattle.square_layout.specs.Refusals.{max_shares, max_count}
+use Rattle.square_layout.specs.Refusals.{max_shares, most_told}
 use Rattle.square_layout.specs.Plans.{PlanParts}
 use Rattle.square_layout.proofs.PlanLemmas.{length-front}
 use Rattle.square_layout.proofs.SquareLemmas.{plan_is_square, plan_has_shares}
@@ -20,7 +20,7 @@ use Rattle.tx_list.specs.OfBytes.{IsOfBytes}
 use Rattle.tx_list.specs.Wrapped.{some_field, wrapped, wrap_all}
 use Rattle.tx_list.specs.Reserves.{list_bound}
 use Rattle.tx_list.specs.Lists.{list_places, plan_of_list, square_of_list}
-use Rattle.tx_list.specs.Refusals.{size_refusal}
+use Rattle.tx_list.specs.Refusals.{list_size_refusal}
 use Rattle.tx_list.proofs.ListLemmas.{list_has_room}
 
 -- ---- it is a square
@@ -31,11 +31,11 @@ few_by : (count : ℕ) (b : Bool) (why : ListError) → nat_lt max_shares count 
 few_by count true why is e = absurd cc
 few_by count false why is e = ltb-false max_shares count is
 
-pub list_is_square : (list : ListParts) → size_refusal list ≡ None → IsSquare (square_of_list list)
+pub list_is_square : (list : ListParts) → list_size_refusal list ≡ None → IsSquare (square_of_list list)
 list_is_square list fine =
     let plan : PlanParts = plan_of_list list in
     let few : list_bound list ≤ max_shares =
-    few_by (list_bound list) (nat_lt max_shares (list_bound list)) (TooLarge (min (list_bound list) max_count)) refl fine in
+    few_by (list_bound list) (nat_lt max_shares (list_bound list)) (TooLarge (min (list_bound list) most_told)) refl fine in
     plan_is_square plan (omega (arith, length-front plan, list_has_room list few)) few
 
 -- ---- payments are written as bytes

@@ -12,7 +12,7 @@ use Rattle.tx_list.specs.Payments.{PaymentParts, ListParts, blobs_of}
 use Rattle.tx_list.specs.Spelled.{blob_spelling, payment_spelling}
 use Rattle.tx_list.specs.Reads.{is_payment, stated, blob_of, payment_of, list_of}
 use Rattle.tx_list.specs.Unwrapped.{wrapped_places}
-use Rattle.tx_list.specs.Measures.{AreCounted}
+use Rattle.tx_list.specs.Measures.{HaveLengths}
 use Rattle.tx_list.specs.BackRefusals.{blobs_at, payment_at}
 use Rattle.tx_list.proofs.MeasureLemmas.{bound-append}
 use Rattle.tx_list.proofs.SpelledBlobLemmas.{IsStatable, blob_is_stated, said_blob}
@@ -96,7 +96,7 @@ joined_bound plain payments =
 
 -- ---- the payments of a square
 
-pub all_statable_payments : (shares : List Share) (units : List (List ℕ)) → AreShares shares → AreCounted units
+pub all_statable_payments : (shares : List Share) (units : List (List ℕ)) → AreShares shares → HaveLengths units
     → AllByRecursion IsStatablePayment (map (payment_at shares) units)
 all_statable_payments shares [] wholes counted = tt
 all_statable_payments shares (unit ∷ units) wholes counted = (

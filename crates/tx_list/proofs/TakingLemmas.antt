@@ -20,9 +20,9 @@ use Rattle.tx_list.specs.declared.checking.Judged.{Judged}
 use Rattle.tx_list.specs.declared.checking.Judged.TheVariants as judged
 use Rattle.proto_fields.specs.Fields.{last_bytes}
 use Rattle.tx_list.specs.Payments.{PaymentParts, ListParts, IsLayable, IsPayment}
-use Rattle.tx_list.specs.Reads.{are_fields, fields_in, entries_of, is_payment, tx_in, StatedBlob, stated, blob_of, payment_of, list_of}
+use Rattle.tx_list.specs.Reads.{are_fields, fields_in, payment_entries, is_payment, tx_in, StatedBlob, stated, blob_of, payment_of, list_of}
 use Rattle.tx_list.specs.ReadRefusals.{name_refusal, has_version, blob_refusal, blobs_refusal, payment_refusal, transaction_refusal, transactions_refusal}
-use Rattle.tx_list.specs.Walks.{with_blobs, judgement, has_payment, taken_of, IsTaken, IsTakenEntry, IsTakenPayment, AreTaken}
+use Rattle.tx_list.specs.Walks.{with_blobs, judgement, has_payment, taken_payments, IsTaken, IsTakenEntry, IsTakenPayment, AreTaken}
 
 -- ---- checks that refuse nothing
 
@@ -130,21 +130,21 @@ blobs_taken i j (entry ∷ entries) h =
     (blob_taken i j (stated entry) both.0, blobs_taken i (suc j) entries both.1)
 
 -- nor its own
-transaction_is : (i : ℕ) (paid : Bool) (bytes : List ℕ) → is_payment bytes ≡ true → transaction_refusal i paid bytes ≡ payment_refusal i (entries_of bytes)
+transaction_is : (i : ℕ) (paid : Bool) (bytes : List ℕ) → is_payment bytes ≡ true → transaction_refusal i paid bytes ≡ payment_refusal i (payment_entries bytes)
 transaction_is i paid bytes is = rw is refl
 
-transaction_by : (i : ℕ) (paid : Bool) (bytes : List ℕ) → transaction_refusal i paid bytes ≡ None → is_payment bytes ≡ true → payment_refusal i (entries_of bytes) ≡ None
+transaction_by : (i : ℕ) (paid : Bool) (bytes : List ℕ) → transaction_refusal i paid bytes ≡ None → is_payment bytes ≡ true → payment_refusal i (payment_entries bytes) ≡ None
 transaction_by i paid bytes h is = sym (transaction_is i paid bytes is) ∙ h
 
 payment_taken : (i : ℕ) (paid : Bool) (bytes : List ℕ) → transaction_refusal i paid bytes ≡ None → is_payment bytes ≡ true → IsTakenPayment bytes
 payment_taken i paid bytes h is =
-    let blobs = if_none (length (entries_of bytes) == 0) (NoBlobs i) (blobs_refusal i 0 (entries_of bytes)) (transaction_by i paid bytes h is) in
-    let all = and_parts (are_fields bytes && bytes_eq (last_bytes 3 (fields_in bytes)) (codes "BLOB")) (list_all are_fields (entries_of bytes)) is in
+    let blobs = if_none (length (payment_entries bytes) == 0) (NoBlobs i) (blobs_refusal i 0 (payment_entries bytes)) (transaction_by i paid bytes h is) in
+    let all = and_parts (are_fields bytes && bytes_eq (last_bytes 3 (fields_in bytes)) (codes "BLOB")) (list_all are_fields (payment_entries bytes)) is in
     record {
       fields = (and_parts (are_fields bytes) (bytes_eq (last_bytes 3 (fields_in bytes)) (codes "BLOB")) all.0).0;
       entries = all.1;
-      some = some_of (length (entries_of bytes)) blobs.0;
-      blobs = blobs_taken i 0 (entries_of bytes) blobs.1;
+      some = some_of (length (payment_entries bytes)) blobs.0;
+      blobs = blobs_taken i 0 (payment_entries bytes) blobs.1;
     }
 
 -- what is taken isn't refused
@@ -153,7 +153,7 @@ payment_has judged.Plain h = absurd (true≢false (sym h))
 payment_has (judged.Payment None) h = refl
 payment_has (judged.Payment (Some why)) h = absurd (true≢false (sym h))
 
-pub payment_lacks : (one : Judged) (bytes : List ℕ) → has_payment one ≡ false → taken_of one bytes ≡ []
+pub payment_lacks : (one : Judged) (bytes : List ℕ) → has_payment one ≡ false → taken_payments one bytes ≡ []
 payment_lacks judged.Plain bytes h = refl
 payment_lacks (judged.Payment None) bytes h = absurd (true≢false h)
 payment_lacks (judged.Payment (Some why)) bytes h = refl
@@ -166,7 +166,7 @@ judged_by false refusal h = absurd cc
 
 pub judged_taken : (i : ℕ) (bytes : List ℕ) → judgement i bytes ≡ judged.Payment None → IsTakenPayment bytes
 judged_taken i bytes h =
-    let both = judged_by (is_payment bytes) (payment_refusal i (entries_of bytes)) h in
+    let both = judged_by (is_payment bytes) (payment_refusal i (payment_entries bytes)) h in
     payment_taken i false bytes (transaction_is i false bytes both.0 ∙ both.1) both.0
 
 -- so it is one as the types keep them
@@ -176,10 +176,10 @@ layable_blobs [] all = tt
 layable_blobs (entry ∷ entries) all = (taken_layable (stated entry) all.0, layable_blobs entries all.1)
 
 pub taken_payment : (tx bytes : List ℕ) → IsTakenPayment bytes
-    → IsPayment (record { tx = tx; blobs = map (λ entry. blob_of (stated entry)) (entries_of bytes) })
+    → IsPayment (record { tx = tx; blobs = map (λ entry. blob_of (stated entry)) (payment_entries bytes) })
 taken_payment tx bytes taken = record {
-  some = omega (arith, length-map (entries_of bytes) (λ (entry : List ℕ). blob_of (stated entry)), taken.some);
-  blobs = layable_blobs (entries_of bytes) taken.blobs;
+  some = omega (arith, length-map (payment_entries bytes) (λ (entry : List ℕ). blob_of (stated entry)), taken.some);
+  blobs = layable_blobs (payment_entries bytes) taken.blobs;
 }
 
 -- ---- transactions
@@ -216,18 +216,18 @@ payments_taken (one ∷ others) all = taken_step (is_payment one) one (filter is
 -- each is kept in its turn
 taken_by : (b : Bool) (i : ℕ) (paid : Bool) (refusal : Option ListError) (one : List ℕ) (others : List (List ℕ))
     → (if b then refusal else (if paid then Some (Behind i) else None)) ≡ None
-    → taken_of (if b then judged.Payment refusal else judged.Plain) one ++ map payment_of others ≡ map payment_of (if b then one ∷ others else others)
+    → taken_payments (if b then judged.Payment refusal else judged.Plain) one ++ map payment_of others ≡ map payment_of (if b then one ∷ others else others)
 taken_by true i paid None one others h = refl
 taken_by true i paid (Some why) one others h = absurd cc
 taken_by false i paid refusal one others h = refl
 
 pub taken_next : (i : ℕ) (paid : Bool) (one : List ℕ) (left others : List (List ℕ)) (payments more : List PaymentParts) → left ≡ one ∷ others
-    → transaction_refusal i paid one ≡ None → more ≡ payments ++ taken_of (judgement i one) one
+    → transaction_refusal i paid one ≡ None → more ≡ payments ++ taken_payments (judgement i one) one
     → more ++ map payment_of (filter is_payment others) ≡ payments ++ map payment_of (filter is_payment left)
 taken_next i paid one left others payments more is none kept =
     ap (λ (l : List PaymentParts). l ++ map payment_of (filter is_payment others)) kept
-    ∙ append_assoc payments (taken_of (judgement i one) one) (map payment_of (filter is_payment others))
-    ∙ ap (λ (l : List PaymentParts). payments ++ l) (taken_by (is_payment one) i paid (payment_refusal i (entries_of one)) one (filter is_payment others) none)
+    ∙ append_assoc payments (taken_payments (judgement i one) one) (map payment_of (filter is_payment others))
+    ∙ ap (λ (l : List PaymentParts). payments ++ l) (taken_by (is_payment one) i paid (payment_refusal i (payment_entries one)) one (filter is_payment others) none)
     ∙ sym (ap (λ (l : List (List ℕ)). payments ++ map payment_of (filter is_payment l)) is)
 
 -- and ones as the types keep them
@@ -256,8 +256,8 @@ entries_fine (entry ∷ entries) fields all =
     let both = and_parts (are_fields entry) (list_all are_fields entries) fields in
     (record { fields = both.0; blob = all.0 }, entries_fine entries both.1 all.1)
 
-pub entries_taken : (bytes : List ℕ) → IsTakenPayment bytes → AllByRecursion IsTakenEntry (entries_of bytes)
-entries_taken bytes taken = entries_fine (entries_of bytes) taken.entries taken.blobs
+pub entries_taken : (bytes : List ℕ) → IsTakenPayment bytes → AllByRecursion IsTakenEntry (payment_entries bytes)
+entries_taken bytes taken = entries_fine (payment_entries bytes) taken.entries taken.blobs
 
 -- what holds of all holds of a front and of what follows
 pub all_split : (some others : List (List ℕ)) → AllByRecursion IsTakenEntry (some ++ others)
@@ -280,6 +280,6 @@ blobs-none blobs = append-nil blobs
 abbrev payment_parts : List ℕ → List NamedBytes → PaymentParts
 payment_parts tx blobs = record { tx = tx; blobs = blobs }
 
-pub payment_parts_are : (bytes tx : List ℕ) (blobs : List NamedBytes) → tx ≡ tx_in bytes → blobs ≡ with_blobs [] (entries_of bytes)
+pub payment_parts_are : (bytes tx : List ℕ) (blobs : List NamedBytes) → tx ≡ tx_in bytes → blobs ≡ with_blobs [] (payment_entries bytes)
     → payment_parts tx blobs ≡ payment_of bytes
 payment_parts_are bytes tx blobs is are = ap₂ payment_parts is are

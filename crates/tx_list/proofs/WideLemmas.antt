@@ -18,7 +18,7 @@ use Rattle.share_split.specs.Units.{unit_share_count}
 use Rattle.share_split.specs.Walks.{units_of}
 use Rattle.square_layout.specs.Blocks.{SquareShares}
 use Rattle.square_layout.specs.Plans.{blobs_bound}
-use Rattle.square_layout.specs.Refusals.{max_shares, max_count}
+use Rattle.square_layout.specs.Refusals.{max_shares, most_told}
 use Rattle.square_layout.proofs.LeastWidthLemmas.{holding_holds}
 use Rattle.tx_list.specs.declared.measuring.Measure.{Measure}
 use Rattle.tx_list.specs.declared.refusals.BackError.{BackError}
@@ -27,13 +27,13 @@ use Rattle.tx_list.specs.declared.refusals.ListError.{ListError}
 use Rattle.tx_list.specs.declared.refusals.ListError.TheVariants.{Behind, NoBlobs, BadBlob, BadVersion, NoBytes, TooLarge}
 use Rattle.tx_list.specs.Payments.{PaymentParts, ListParts, blobs_of}
 use Rattle.tx_list.specs.Reserves.{wrap_full, list_bound}
-use Rattle.tx_list.specs.Spelled.{blob_spelling, payment_spelling, spelled}
-use Rattle.tx_list.specs.Reads.{entries_of, is_payment, stated, list_of}
+use Rattle.tx_list.specs.Spelled.{blob_spelling, payment_spelling, spelled_list}
+use Rattle.tx_list.specs.Reads.{payment_entries, is_payment, stated, list_of}
 use Rattle.tx_list.specs.ReadRefusals.{has_version, blob_refusal, blobs_refusal, payment_refusal, transaction_refusal, transactions_refusal, read_refusal}
-use Rattle.tx_list.specs.Refusals.{size_refusal}
+use Rattle.tx_list.specs.Refusals.{list_size_refusal}
 use Rattle.tx_list.specs.Lists.{square_of_list}
 use Rattle.tx_list.specs.BackRefusals.{first_front, second_front, front_refusal, front_units, payment_at, wrappers_refusal, back_list, part_refusal, first_unlike, unlike_at, laid_refusal, back_refusal}
-use Rattle.tx_list.specs.Measures.{is_named_again, measure_of, AreCounted, full_of, bound_with, has_square}
+use Rattle.tx_list.specs.Measures.{is_named_again, measure_of, HaveLengths, full_of, bound_with, has_square}
 use Rattle.tx_list.proofs.SpelledBlobLemmas.{IsStatable, said, blob_is_stated, version_passes}
 use Rattle.tx_list.proofs.SpelledListLemmas.{IsStatablePayment, entries_read, statable_is_payment}
 use Rattle.tx_list.proofs.StatedLemmas.{payment_again, joined_list, list_again, joined_bound, all_statable_payments}
@@ -84,7 +84,7 @@ blobs_refused i j (blob ∷ blobs) all =
 -- ---- whether a payment is
 
 abbrev transaction_by : ℕ → Bool → Bool → List ℕ → Option ListError
-transaction_by i paid is bytes = cond is (payment_refusal i (entries_of bytes)) (cond paid (Some (Behind i)) None)
+transaction_by i paid is bytes = cond is (payment_refusal i (payment_entries bytes)) (cond paid (Some (Behind i)) None)
 
 payment_refused : (i : ℕ) (paid : Bool) (payment : PaymentParts) → IsStatablePayment payment → 1 ≤ length payment.blobs
     → is_some (transaction_refusal i paid (payment_spelling payment)) ≡ not (list_all is_named_again payment.blobs)
@@ -142,7 +142,7 @@ bound_is shares plain units passed =
     full-append some (map payment_again payments) ∙ ap (λ (l : List (List ℕ)). wrap_full some ++ l) (full_units shares units passed) in
     ap₂ (λ (l : List (List ℕ)) (n : ℕ). unit_share_count (list_of plain).units + unit_share_count l + n) full (joined_bound plain payments)
 
-size_refused : (n m : ℕ) → m ≡ min n max_count → (other most : ℕ) → most ≡ other + n → nat_lt max_shares most ≡ not (nat_le (other + m) max_shares)
+size_refused : (n m : ℕ) → m ≡ min n most_told → (other most : ℕ) → most ≡ other + n → nat_lt max_shares most ≡ not (nat_le (other + m) max_shares)
 size_refused n m is other most sum = elim (cases_lt max_shares most) [
   | inl great ↦
       let one : nat_lt max_shares most ≡ true = grind (arith, nat_tests, great) in
@@ -171,16 +171,16 @@ have_blobs i shares (unit ∷ units) e =
     let two = wrapper_parts i shares unit units e in (some_blobs i shares unit two.0, have_blobs (suc i) shares units two.1)
 
 -- a list of transactions and of the payments of a square is refused where it has no square
-refused_is : (shares : List Share) (plain units : List (List ℕ)) (blobs : Measure) → AreShares shares → AreCounted units → wrappers_refusal 0 shares units ≡ None
+refused_is : (shares : List Share) (plain units : List (List ℕ)) (blobs : Measure) → AreShares shares → HaveLengths units → wrappers_refusal 0 shares units ≡ None
     → blobs ≡ measure_of (blobs_of (map (payment_at shares) units))
     → (is_some (read_refusal (plain ++ map payment_spelling (map (payment_at shares) units)))
-    || is_some (size_refusal (list_of (plain ++ map payment_spelling (map (payment_at shares) units))))) ≡ not (has_square plain units blobs)
+    || is_some (list_size_refusal (list_of (plain ++ map payment_spelling (map (payment_at shares) units))))) ≡ not (has_square plain units blobs)
 refused_is shares plain units blobs wholes counted passed is =
     let payments : List PaymentParts = map (payment_at shares) units in
     let all : AllByRecursion IsStatablePayment payments = all_statable_payments shares units wholes counted in
     let list : ListParts = list_of (plain ++ map payment_spelling payments) in
     let named : blobs.named ≡ list_all is_named_again (blobs_of payments) = ap (λ (m : Measure). m.named) is in
-    let bound : blobs.bound ≡ min (blobs_bound (blobs_of payments)) max_count = ap (λ (m : Measure). m.bound) is in
+    let bound : blobs.bound ≡ min (blobs_bound (blobs_of payments)) most_told = ap (λ (m : Measure). m.bound) is in
     let first : is_some (read_refusal (plain ++ map payment_spelling payments)) ≡ (is_some (read_refusal plain) || not blobs.named) =
     behind_refused 0 false plain payments all (have_blobs 0 shares units passed)
     ∙ ap (λ (b : Bool). is_some (read_refusal plain) || not b) (sym named) in
@@ -190,8 +190,8 @@ refused_is shares plain units blobs wholes counted passed is =
     let rest : ℕ = blobs_bound (blobs_of (list_of plain).payments) in
     let fits : nat_le (other + rest + blobs.bound) max_shares ≡ nat_le (bound_with (list_of plain) units blobs.bound) max_shares =
     ap (λ (n : ℕ). nat_le n max_shares) (omega arith) in
-    let second : is_some (size_refusal list) ≡ not (nat_le (bound_with (list_of plain) units blobs.bound) max_shares) =
-    refused_some (nat_lt max_shares (list_bound list)) (TooLarge (min (list_bound list) max_count))
+    let second : is_some (list_size_refusal list) ≡ not (nat_le (bound_with (list_of plain) units blobs.bound) max_shares) =
+    refused_some (nat_lt max_shares (list_bound list)) (TooLarge (min (list_bound list) most_told))
     ∙ size_refused (blobs_bound (blobs_of payments)) blobs.bound bound (other + rest) (list_bound list) (omega (arith, most))
     ∙ ap not fits in
     ap₂ (λ (a b : Bool). a || b) first second
@@ -226,7 +226,7 @@ neither true b h = absurd cc
 neither false b h = h
 
 -- it isn't laid out as the square
-laid_wide : (square : SquareShares) (plain units : List (List ℕ)) (blobs : Measure) → AreShares square.shares → AreCounted units
+laid_wide : (square : SquareShares) (plain units : List (List ℕ)) (blobs : Measure) → AreShares square.shares → HaveLengths units
     → wrappers_refusal 0 square.shares units ≡ None → blobs ≡ measure_of (blobs_of (map (payment_at square.shares) units))
     → length square.shares ≡ square.k * square.k → length square.shares < blobs.bound
     → laid_refusal square (plain ++ map payment_spelling (map (payment_at square.shares) units))
@@ -240,14 +240,14 @@ laid_wide square plain units blobs wholes counted passed is size many =
     let rest : Option BackError = option_map Unlike (unlike_at square (square_of_list list)) in
     elim (cases_Bool (has_square plain units blobs)) [
       | inl has ↦
-          let none : (is_some (read_refusal transactions) || is_some (size_refusal list)) ≡ false = refused ∙ ap not has in
+          let none : (is_some (read_refusal transactions) || is_some (list_size_refusal list)) ≡ false = refused ∙ ap not has in
           let fits : nat_lt max_shares (list_bound list) ≡ false =
-          sym (refused_some (nat_lt max_shares (list_bound list)) (TooLarge (min (list_bound list) max_count)))
-          ∙ neither (is_some (read_refusal transactions)) (is_some (size_refusal list)) none in
+          sym (refused_some (nat_lt max_shares (list_bound list)) (TooLarge (min (list_bound list) most_told)))
+          ∙ neither (is_some (read_refusal transactions)) (is_some (list_size_refusal list)) none in
           let few : list_bound list ≤ max_shares = not_great (list_bound list) fits in
           let sum : blobs_bound (blobs_of list.payments) ≡ blobs_bound (blobs_of (list_of plain).payments) + blobs_bound (blobs_of payments) =
           ap (λ (l : ListParts). blobs_bound (blobs_of l.payments)) (list_again plain payments all) ∙ joined_bound plain payments in
-          let bound : blobs.bound ≡ min (blobs_bound (blobs_of payments)) max_count = ap (λ (m : Measure). m.bound) is in
+          let bound : blobs.bound ≡ min (blobs_bound (blobs_of payments)) most_told = ap (λ (m : Measure). m.bound) is in
           let wide : square.k * square.k < (square_of_list list).k * (square_of_list list).k = omega (arith, width_holds list few, sum, bound, size, many) in
           ap (λ (b : Bool). cond b (Some (Unlike 0)) rest) none
           ∙ ap (option_map Unlike) (unlike_wider square (square_of_list list) wide)
@@ -262,7 +262,7 @@ laid_wide square plain units blobs wholes counted passed is size many =
 pub wide_by : (square : SquareShares) (first second : List Share) (plain units : List (List ℕ)) (blobs : Measure) → AreShares square.shares
     → length square.shares ≡ square.k * square.k → first ≡ first_front square.shares → second ≡ second_front square.shares
     → front_refusal Units (units_of first) ≡ None → front_refusal Payments (units_of second) ≡ None → plain ≡ front_units (units_of first)
-    → units ≡ front_units (units_of second) → wrappers_refusal 0 square.shares units ≡ None → AreCounted units
+    → units ≡ front_units (units_of second) → wrappers_refusal 0 square.shares units ≡ None → HaveLengths units
     → blobs ≡ measure_of (blobs_of (map (payment_at square.shares) units)) → length square.shares < blobs.bound
     → back_refusal square ≡ Some (Unlike (cond (has_square plain units blobs) (length square.shares) 0))
 wide_by square first second plain units blobs wholes size first_is second_is some paid plain_is units_is passed counted is many =
@@ -274,8 +274,8 @@ wide_by square first second plain units blobs wholes size first_is second_is som
     ap₂ (λ (a : Option BackError) (b : Option BackError). option_or a b) (ap (λ (l : List Share). front_refusal Units (units_of l)) (sym first_is) ∙ some)
     (ap₂ (λ (a : Option BackError) (b : Option BackError). option_or a b) (ap (λ (l : List Share). front_refusal Payments (units_of l)) (sym second_is) ∙ paid)
     (ap (wrappers_refusal 0 square.shares) (sym also) ∙ passed)) in
-    let list : spelled (back_list square) ≡ transactions =
+    let list : spelled_list (back_list square) ≡ transactions =
     ap₂ (λ (a b : List (List ℕ)). a ++ map payment_spelling (map (payment_at square.shares) b)) (sym read) (sym also) in
-    ap (λ (o : Option BackError). option_or o (laid_refusal square (spelled (back_list square)))) parts
+    ap (λ (o : Option BackError). option_or o (laid_refusal square (spelled_list (back_list square)))) parts
     ∙ ap (laid_refusal square) list
     ∙ laid_wide square plain units blobs wholes counted passed is size many

@@ -9,15 +9,15 @@ use Rattle.namespace_id.specs.Names.{transaction, pay_for_blob}
 use Rattle.namespace_id.specs.Shares.{name_in}
 use Rattle.share_split.specs.declared.joining.JoinError.{JoinError}
 use Rattle.share_split.specs.Blobs.{NamedBytes, share_count}
-use Rattle.share_split.specs.Walks.{size_in, is_signed, blobs_of, units_of}
+use Rattle.share_split.specs.Walks.{size_in, is_signed, blobs_joined, units_of}
 use Rattle.square_layout.specs.Blocks.{SquareShares}
 use Rattle.tx_list.specs.declared.refusals.BackError.{BackError}
 use Rattle.tx_list.specs.declared.refusals.BackError.TheVariants.{Units, Payments, Wrapper, Index, Unlike, NoMemory}
 use Rattle.tx_list.specs.Payments.{PaymentParts, ListParts}
 use Rattle.tx_list.specs.Reads.{list_of}
 use Rattle.tx_list.specs.ReadRefusals.{read_refusal}
-use Rattle.tx_list.specs.Refusals.{size_refusal}
-use Rattle.tx_list.specs.Spelled.{spelled}
+use Rattle.tx_list.specs.Refusals.{list_size_refusal}
+use Rattle.tx_list.specs.Spelled.{spelled_list}
 use Rattle.tx_list.specs.Lists.{square_of_list}
 use Rattle.tx_list.specs.Unwrapped.{wrapped_tx, wrapped_places, is_wrapper}
 
@@ -75,7 +75,7 @@ one_blob (Ok blobs) = the_one blobs
 
 -- the blob whose sequence begins at a place, if one does
 abbrev pub blob_at : List Share → ℕ → Option NamedBytes
-blob_at shares place = one_blob (blobs_of (sequence_at shares place))
+blob_at shares place = one_blob (blobs_joined (sequence_at shares place))
 
 -- the blobs at these places
 abbrev pub blobs_at : List Share → List ℕ → List NamedBytes
@@ -139,16 +139,16 @@ unlike_at square other =
 -- why transactions aren't laid out as a square: no check may refuse them, and their square is this one
 abbrev pub laid_refusal : SquareShares → List (List ℕ) → Option BackError
 laid_refusal square transactions =
-    if is_some (read_refusal transactions) || is_some (size_refusal (list_of transactions)) then Some (Unlike 0) else
+    if is_some (read_refusal transactions) || is_some (list_size_refusal (list_of transactions)) then Some (Unlike 0) else
     option_map Unlike (unlike_at square (square_of_list (list_of transactions)))
 
 -- why a square isn't one that a list is laid out as
 abbrev pub back_refusal : SquareShares → Option BackError
-back_refusal square = option_or (part_refusal square) (laid_refusal square (spelled (back_list square)))
+back_refusal square = option_or (part_refusal square) (laid_refusal square (spelled_list (back_list square)))
 
 -- ---- how a call answers
 
 -- a call answered the first check that fails, or, where none does, a value; unless memory ran out
-abbrev pub Answers : {X : Type 0} → Result X BackError → Option BackError → Type 0
-Answers (Ok x) refusal = refusal ≡ None
-Answers (Err e) refusal = (e ≡ NoMemory) ⊎ (refusal ≡ Some e)
+abbrev pub AnswersBack : {X : Type 0} → Result X BackError → Option BackError → Type 0
+AnswersBack (Ok x) refusal = refusal ≡ None
+AnswersBack (Err e) refusal = (e ≡ NoMemory) ⊎ (refusal ≡ Some e)

@@ -12,14 +12,14 @@ abbrev pub list_places : ListParts → List ℕ
 list_places list = blob_places (list_reserve list) (blobs_of list.payments)
 
 -- its payments as they are written
-abbrev pub written : ListParts → List (List ℕ)
-written list = wrap_all list.payments (list_places list)
+abbrev pub written_list : ListParts → List (List ℕ)
+written_list list = wrap_all list.payments (list_places list)
 
 -- a list as it is planned
 abbrev pub plan_of_list : ListParts → PlanParts
 plan_of_list list = record {
   units = list.units;
-  pay_units = written list;
+  pay_units = written_list list;
   blobs = blobs_of list.payments;
   reserve = list_reserve list;
 }
@@ -28,7 +28,7 @@ plan_of_list list = record {
 abbrev pub block_of_list : ListParts → BlockParts
 block_of_list list = record {
   units = list.units;
-  pay_units = written list;
+  pay_units = written_list list;
   blobs = blobs_of list.payments;
   width = Some (plan_width (plan_of_list list));
 }

@@ -7,7 +7,7 @@ use Rattle.namespace_id.specs.Names.{namespace_refusal}
 use Rattle.share_split.specs.Blobs.{NamedBytes}
 use Rattle.share_split.specs.Units.{unit_share_count}
 use Rattle.square_layout.specs.Plans.{blobs_bound}
-use Rattle.square_layout.specs.Refusals.{max_shares, max_count}
+use Rattle.square_layout.specs.Refusals.{max_shares, most_told}
 use Rattle.tx_list.specs.declared.measuring.Measure.{Measure}
 use Rattle.tx_list.specs.Payments.{ListParts, blobs_of}
 use Rattle.tx_list.specs.Wrapped.{wrapped}
@@ -23,7 +23,7 @@ is_named_again blob = not (is_some (namespace_refusal (0 ∷ drop 1 blob.namespa
 
 -- what blobs ask for: as many shares as they may take at most, where a greater number isn't told, and whether each is so named
 abbrev pub measure_of : List NamedBytes → Measure
-measure_of blobs = record { bound = min (blobs_bound blobs) max_count; named = list_all is_named_again blobs }
+measure_of blobs = record { bound = min (blobs_bound blobs) most_told; named = list_all is_named_again blobs }
 
 -- what the blob asks for that begins at a place, if one does
 abbrev pub measure_at : List Share → ℕ → Option Measure
@@ -35,8 +35,8 @@ AreKnown shares known =
     (place : ℕ) (measure : Measure) → slice_get known place ≡ Some (Some measure) → measure_at shares place ≡ Some measure
 
 -- units whose transactions have lengths of 64 bits
-abbrev pub AreCounted : List (List ℕ) → Type 0
-AreCounted units = AllByRecursion (λ unit. length (wrapped_tx unit) < 2 ^ 64) units
+abbrev pub HaveLengths : List (List ℕ) → Type 0
+HaveLengths units = AllByRecursion (λ unit. length (wrapped_tx unit) < 2 ^ 64) units
 
 -- ---- whether a list has a square
 

@@ -26,24 +26,24 @@ order_numbered [] = []
 order_numbered (one ∷ others) = put_numbered one (order_numbered others)
 
 -- a number, and the place of its blob
-pub record Place : Type 0 where
+pub record BlobPlace : Type 0 where
   pub number : ℕ
   pub start : ℕ
 
 -- the places of blobs in order, of which the first ones end at `end`: each is the least that it may have
-unfoldable pub places_from : ℕ → List Numbered → List Place
+unfoldable pub places_from : ℕ → List Numbered → List BlobPlace
 places_from end [] = []
 places_from end (one ∷ others) =
     record { number = one.number; start = start_after end one.blob }
     ∷ places_from (start_after end one.blob + share_count_of one.blob) others
 
 -- the place beside a number, which stands there once; this one where it doesn't
-unfoldable pub place_of : ℕ → ℕ → List Place → ℕ
+unfoldable pub place_of : ℕ → ℕ → List BlobPlace → ℕ
 place_of found i [] = found
 place_of found i (place ∷ places) = place_of (if place.number == i then place.start else found) i places
 
 -- so many places, of the numbers from i on
-unfoldable pub places_of : ℕ → ℕ → List Place → List ℕ
+unfoldable pub places_of : ℕ → ℕ → List BlobPlace → List ℕ
 places_of i zero places = []
 places_of i (suc count) places = place_of 0 i places ∷ places_of (suc i) count places
 

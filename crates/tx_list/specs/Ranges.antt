@@ -7,12 +7,12 @@ use Rattle.square_layout.specs.Layout.{in_order, share_count_of, start_after, en
 use Rattle.tx_list.specs.Payments.{PaymentParts, ListParts, blobs_of}
 use Rattle.tx_list.specs.Reserves.{list_reserve}
 use Rattle.tx_list.specs.Unwrapped.{wrapped_tx, wrapped_places}
-use Rattle.tx_list.specs.Lists.{list_places, written}
+use Rattle.tx_list.specs.Lists.{list_places, written_list}
 
 -- the payment behind these of a list is written as a unit of which its transaction is read, and the places of its blobs
 pub record StatesPlaces (list : ListParts) (earlier : List PaymentParts) (payment : PaymentParts) : Type 0 where
   pub unit : List ℕ
-  pub there : slice_get (written list) (length earlier) ≡ Some unit
+  pub there : slice_get (written_list list) (length earlier) ≡ Some unit
   pub tx : wrapped_tx unit ≡ payment.tx
   pub places : wrapped_places unit
       ≡ take (length payment.blobs) (drop (length (blobs_of earlier)) (list_places list))

@@ -3,7 +3,7 @@ use Rattle.std.specs.Prelude.{◌≡◌, ◌<◌, ◌≤◌, ◌^◌, ℕ, true,
 use Rattle.std.specs.List.{AllByRecursion}
 use Rattle.share_split.specs.Blobs.{NamedBytes, signer_size}
 use Rattle.tx_list.specs.Payments.{PaymentParts, ListParts, IsLayable}
-use Rattle.tx_list.specs.Spelled.{blob_spelling, payment_spelling, spelled}
+use Rattle.tx_list.specs.Spelled.{blob_spelling, payment_spelling, spelled_list}
 use Rattle.tx_list.specs.Reads.{is_payment, payment_of, list_of}
 use Rattle.tx_list.specs.ReadRefusals.{read_refusal}
 
@@ -43,14 +43,14 @@ SpellingIsRead = (payment : PaymentParts) → IsSpellable payment → payment_of
 
 -- no check refuses a list in its one spelling
 abbrev pub SpelledIsTaken : Type 0
-SpelledIsTaken = (list : ListParts) → IsSpellableList list → read_refusal (spelled list) ≡ None
+SpelledIsTaken = (list : ListParts) → IsSpellableList list → read_refusal (spelled_list list) ≡ None
 
 -- it is read as that list
-abbrev pub SpelledIsRead : Type 0
-SpelledIsRead = (list : ListParts) → IsSpellableList list → list_of (spelled list) ≡ list
+abbrev pub SpelledListIsRead : Type 0
+SpelledListIsRead = (list : ListParts) → IsSpellableList list → list_of (spelled_list list) ≡ list
 
 -- and the one spelling of a list that was read is read alike
 abbrev pub SpelledAgain : Type 0
 SpelledAgain = (transactions : List (List ℕ)) → read_refusal transactions ≡ None
     → ArePaymentsCounted (list_of transactions).payments
-    → list_of (spelled (list_of transactions)) ≡ list_of transactions
+    → list_of (spelled_list (list_of transactions)) ≡ list_of transactions

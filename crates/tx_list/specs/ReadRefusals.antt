@@ -8,7 +8,7 @@ use Rattle.namespace_id.specs.Sizes.{namespace_size}
 use Rattle.share_split.specs.Blobs.{signer_size}
 use Rattle.tx_list.specs.declared.refusals.ListError.{ListError}
 use Rattle.tx_list.specs.declared.refusals.ListError.TheVariants.{Behind, NoBlobs, BadBlob, BadVersion, NoBytes}
-use Rattle.tx_list.specs.Reads.{StatedBlob, stated, entries_of, is_payment}
+use Rattle.tx_list.specs.Reads.{StatedBlob, stated, payment_entries, is_payment}
 
 -- ---- a blob
 
@@ -43,7 +43,7 @@ payment_refusal i entries = if length entries == 0 then Some (NoBlobs i) else bl
 -- why transaction i isn't taken, where a payment may have come before it
 abbrev pub transaction_refusal : ℕ → Bool → List ℕ → Option ListError
 transaction_refusal i paid bytes =
-    if is_payment bytes then payment_refusal i (entries_of bytes) else
+    if is_payment bytes then payment_refusal i (payment_entries bytes) else
     (if paid then Some (Behind i) else None)
 
 -- the first of transactions, from transaction i on, that isn't taken

@@ -21,13 +21,13 @@ fields_in bytes = option_map_or (λ fields. fields) (fields_of bytes) []
 -- ---- payments
 
 -- the blobs that a payment carries: each field of number 2 that is bytes
-abbrev pub entries_of : List ℕ → List (List ℕ)
-entries_of bytes = all_bytes 2 (fields_in bytes)
+abbrev pub payment_entries : List ℕ → List (List ℕ)
+payment_entries bytes = all_bytes 2 (fields_in bytes)
 
 -- whether a transaction is a payment: it is fields, its type id is `BLOB`, and each blob that it carries is fields
 abbrev pub is_payment : List ℕ → Bool
 is_payment bytes =
-    are_fields bytes && bytes_eq (last_bytes 3 (fields_in bytes)) (codes "BLOB") && list_all are_fields (entries_of bytes)
+    are_fields bytes && bytes_eq (last_bytes 3 (fields_in bytes)) (codes "BLOB") && list_all are_fields (payment_entries bytes)
 
 -- the transaction in a payment
 abbrev pub tx_in : List ℕ → List ℕ
@@ -69,7 +69,7 @@ blob_of blob = record {
 
 -- the payment that a transaction is
 abbrev pub payment_of : List ℕ → PaymentParts
-payment_of bytes = record { tx = tx_in bytes; blobs = map (λ entry. blob_of (stated entry)) (entries_of bytes) }
+payment_of bytes = record { tx = tx_in bytes; blobs = map (λ entry. blob_of (stated entry)) (payment_entries bytes) }
 
 -- transactions that were read: those that are no payments, and the payments
 abbrev pub list_of : List (List ℕ) → ListParts

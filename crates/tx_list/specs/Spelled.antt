@@ -23,5 +23,5 @@ payment_spelling payment =
     ++ (flat_map (λ blob. bytes_field 2 (blob_spelling blob)) payment.blobs ++ some_field 3 (codes "BLOB"))
 
 -- the transactions of a list, each payment in its one spelling
-abbrev pub spelled : ListParts → List (List ℕ)
-spelled list = list.units ++ map payment_spelling list.payments
+abbrev pub spelled_list : ListParts → List (List ℕ)
+spelled_list list = list.units ++ map payment_spelling list.payments

@@ -2,7 +2,7 @@
 use Rattle.std.specs.Prelude.{ℕ, List, [], ◌∷◌, map, set}
 use Rattle.share_split.specs.Blobs.{NamedBytes}
 use Rattle.tx_list.specs.declared.placing.NumberedBlob.{NumberedBlob}
-use Rattle.tx_list.specs.Places.{Numbered, Place}
+use Rattle.tx_list.specs.Places.{Numbered, BlobPlace}
 
 -- a blob with its number, wherever the blob lies
 abbrev pub numbered : NumberedBlob → Numbered
@@ -13,6 +13,6 @@ abbrev pub unnumbered : List Numbered → List NamedBytes
 unnumbered all = map (λ one. one.blob) all
 
 -- a list of places after each of these was written at its number
-unfoldable pub put_places : List Place → List ℕ → List ℕ
+unfoldable pub put_places : List BlobPlace → List ℕ → List ℕ
 put_places [] starts = starts
 put_places (place ∷ places) starts = put_places places (set starts place.number place.start)

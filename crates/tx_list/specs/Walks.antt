@@ -12,7 +12,7 @@ use Rattle.tx_list.specs.declared.checking.Judged.TheVariants as judged
 use Rattle.tx_list.specs.declared.refusals.ListError.{ListError}
 use Rattle.tx_list.specs.declared.refusals.ListError.TheVariants.{NoBlobs}
 use Rattle.tx_list.specs.Payments.{PaymentParts}
-use Rattle.tx_list.specs.Reads.{are_fields, entries_of, is_payment, StatedBlob, stated, blob_of, payment_of}
+use Rattle.tx_list.specs.Reads.{are_fields, payment_entries, is_payment, StatedBlob, stated, blob_of, payment_of}
 use Rattle.tx_list.specs.ReadRefusals.{name_refusal, has_version, blob_refusal, payment_refusal}
 
 -- the bytes that a value is
@@ -22,8 +22,8 @@ bytes_value_of (bytes_value bytes) = Some bytes
 bytes_value_of other_value = None
 
 -- the blob that a field of a payment carries
-abbrev pub entry_of : FieldParts → Option (List ℕ)
-entry_of field = if field.number == 2 then bytes_value_of field.value else None
+abbrev pub blob_entry : FieldParts → Option (List ℕ)
+blob_entry field = if field.number == 2 then bytes_value_of field.value else None
 
 -- a blob as a payment states it, wherever its bytes lie
 abbrev pub stated_parts : Stated → StatedBlob
@@ -56,8 +56,8 @@ with_checked checked fine refusal = record {
 }
 
 -- the blobs of transaction i that were checked, and one more; no check is of one that isn't fields
-abbrev pub with_entry : ℕ → Checked → List ℕ → Checked
-with_entry i checked entry = record {
+abbrev pub with_one_blob : ℕ → Checked → List ℕ → Checked
+with_one_blob i checked entry = record {
   count = suc checked.count;
   are_fields = checked.are_fields && are_fields entry;
   refusal = if are_fields entry then option_or checked.refusal (blob_refusal i checked.count (stated entry)) else checked.refusal;
@@ -66,15 +66,15 @@ with_entry i checked entry = record {
 -- and some more
 unfoldable pub with_entries : ℕ → Checked → List (List ℕ) → Checked
 with_entries i checked [] = checked
-with_entries i checked (entry ∷ entries) = with_entries i (with_entry i checked entry) entries
+with_entries i checked (entry ∷ entries) = with_entries i (with_one_blob i checked entry) entries
 
 -- what transaction i is, and, where it is a payment, why it isn't taken
 abbrev pub judgement : ℕ → List ℕ → Judged
-judgement i bytes = if is_payment bytes then judged.Payment (payment_refusal i (entries_of bytes)) else judged.Plain
+judgement i bytes = if is_payment bytes then judged.Payment (payment_refusal i (payment_entries bytes)) else judged.Plain
 
 -- the same by what a walk over its fields has left, the last type id, and its blobs
-abbrev pub judged_of : ℕ → List ℕ → List ℕ → Checked → Judged
-judged_of i rest type_id checked =
+abbrev pub judged_fields : ℕ → List ℕ → List ℕ → Checked → Judged
+judged_fields i rest type_id checked =
     if (length rest == 0) && bytes_eq type_id (codes "BLOB") && checked.are_fields
     then judged.Payment (if checked.count == 0 then Some (NoBlobs i) else checked.refusal) else judged.Plain
 
@@ -87,10 +87,10 @@ has_payment (judged.Payment None) = true
 has_payment (judged.Payment (Some why)) = false
 
 -- the payment that is taken of a transaction, if one is
-abbrev pub taken_of : Judged → List ℕ → List PaymentParts
-taken_of judged.Plain bytes = []
-taken_of (judged.Payment None) bytes = payment_of bytes ∷ []
-taken_of (judged.Payment (Some why)) bytes = []
+abbrev pub taken_payments : Judged → List ℕ → List PaymentParts
+taken_payments judged.Plain bytes = []
+taken_payments (judged.Payment None) bytes = payment_of bytes ∷ []
+taken_payments (judged.Payment (Some why)) bytes = []
 
 -- blobs, and those that bytes state behind them
 abbrev pub with_blobs : List NamedBytes → List (List ℕ) → List NamedBytes
@@ -110,9 +110,9 @@ pub record IsTakenEntry (entry : List ℕ) : Type 0 where
 -- a payment that no check refuses
 pub record IsTakenPayment (bytes : List ℕ) : Type 0 where
   pub fields : are_fields bytes ≡ true
-  pub entries : list_all are_fields (entries_of bytes) ≡ true
-  pub some : 1 ≤ length (entries_of bytes)
-  pub blobs : AllByRecursion (λ entry. IsTaken (stated entry)) (entries_of bytes)
+  pub entries : list_all are_fields (payment_entries bytes) ≡ true
+  pub some : 1 ≤ length (payment_entries bytes)
+  pub blobs : AllByRecursion (λ entry. IsTaken (stated entry)) (payment_entries bytes)
 
 -- transactions whose payments no check refuses
 abbrev pub AreTaken : List (List ℕ) → Type 0

@@ -5,7 +5,7 @@ ghost use Rattle.std.specs.Str.{bytes_eq};
 ghost use Rattle.namespace_id.specs.Answers.{refusal_in};
 ghost use Rattle.tx_list.specs.Reads.{is_payment};
 ghost use Rattle.tx_list.specs.ReadRefusals.{name_refusal, has_version, blob_refusal, transaction_refusal};
-ghost use Rattle.tx_list.specs.Walks.{stated_parts, with_checked, judgement, judged_of, has_payment};
+ghost use Rattle.tx_list.specs.Walks.{stated_parts, with_checked, judgement, judged_fields, has_payment};
 
 use crate::ListError;
 use crate::reading::Stated;
@@ -111,7 +111,7 @@ fn is_paying(rest: &[u8], type_id: &[u8], are_fields: bool) -> bool
 
 /// What transaction i is, by what a walk over its fields has left, the last type id, and what is known of its blobs.
 pub(crate) fn judged_by(i: u64, rest: &[u8], type_id: &[u8], checked: Checked) -> Judged
-    ensures { result ≡ judged_of i rest.now type_id.now checked }
+    ensures { result ≡ judged_fields i rest.now type_id.now checked }
 {
     if !is_paying(rest, type_id, checked.are_fields) {
         return Judged::Plain;

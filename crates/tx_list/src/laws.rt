@@ -16,15 +16,15 @@ ghost use Rattle.square_layout.specs.Refusals.{max_shares};
 ghost use Rattle.tx_list.specs.Payments.{ListParts, IsPayment, blobs_of};
 ghost use Rattle.tx_list.specs.Places.{places_from, ordered};
 ghost use Rattle.tx_list.specs.Reserves.{wrap_full, list_reserve, list_bound};
-ghost use Rattle.tx_list.specs.Refusals.{size_refusal};
+ghost use Rattle.tx_list.specs.Refusals.{list_size_refusal};
 ghost use Rattle.tx_list.specs.OfBytes.{IsOfBytes};
 ghost use Rattle.tx_list.specs.Reads.{list_of};
 ghost use Rattle.tx_list.specs.ReadRefusals.{read_refusal};
-ghost use Rattle.tx_list.specs.ReadLaws.{SpellingIsPayment, SpellingIsRead, SpelledIsTaken, SpelledIsRead, SpelledAgain};
+ghost use Rattle.tx_list.specs.ReadLaws.{SpellingIsPayment, SpellingIsRead, SpelledIsTaken, SpelledListIsRead, SpelledAgain};
 ghost use Rattle.square_layout.specs.Blocks.{SquareShares};
 ghost use Rattle.tx_list.specs.Backs.{IsBack, HaveNamedBlobs};
 ghost use Rattle.tx_list.specs.BackRefusals.{has_namespace, back_refusal};
-ghost use Rattle.tx_list.specs.Lists.{list_places, written, plan_of_list, block_of_list, square_of_list};
+ghost use Rattle.tx_list.specs.Lists.{list_places, written_list, plan_of_list, block_of_list, square_of_list};
 
 use square_layout::{order_laws, share_laws};
 
@@ -37,7 +37,7 @@ pub fn list_laws()
     ensures low { (list : ListParts) → list_bound list ≤ max_shares →
         AllByRecursion (λ place. place < max_shares) (list_places list) }
     ensures room { (list : ListParts) → list_bound list ≤ max_shares →
-        unit_share_count list.units + unit_share_count (written list) ≤ list_reserve list }
+        unit_share_count list.units + unit_share_count (written_list list) ≤ list_reserve list }
     ensures ends { (list : ListParts) →
         end_of (list_reserve list) (in_order (blobs_of list.payments)) ≤ list_bound list }
 
@@ -56,7 +56,7 @@ pub fn list_laws()
 
     // A list without signers, whose payments take as many shares as are reserved for them, is laid out as a block is.
     ensures same { (list : ListParts) →
-        unit_share_count (written list) ≡ unit_share_count (wrap_full list.payments) →
+        unit_share_count (written_list list) ≡ unit_share_count (wrap_full list.payments) →
         AllByRecursion (λ blob. blob.signer ≡ None) (blobs_of list.payments) →
         planned (plan_of_list list) ≡ laid (block_of_list list) }
 {}
@@ -67,7 +67,7 @@ pub fn list_laws()
 pub fn square_laws()
     // A list that isn't refused for its size has a square, and one of bytes has shares. What is read as
     // payments, where no check refuses it, are payments.
-    ensures square { (list : ListParts) → size_refusal list ≡ None → IsSquare (square_of_list list) }
+    ensures square { (list : ListParts) → list_size_refusal list ≡ None → IsSquare (square_of_list list) }
     ensures shares { (list : ListParts) → IsOfBytes list → AreShares (square_of_list list).shares }
     ensures payments { (transactions : List (List ℕ)) → read_refusal transactions ≡ None →
         AllByRecursion IsPayment (list_of transactions).payments }
@@ -97,7 +97,7 @@ pub fn read_laws()
 
     // So a list in its one spelling is read as that list, and no check refuses it.
     ensures taken { SpelledIsTaken }
-    ensures list { SpelledIsRead }
+    ensures list { SpelledListIsRead }
     ensures again { SpelledAgain }
 {}
 

@@ -7,8 +7,8 @@ ghost use Rattle.namespace_id.specs.Shares.{name_in};
 ghost use Rattle.square_layout.specs.Refusals.{max_shares};
 ghost use Rattle.tx_list.specs.Payments.{blobs_of};
 ghost use Rattle.tx_list.specs.Reserves.{list_reserve, list_bound};
-ghost use Rattle.tx_list.specs.Lists.{list_places, written, square_of_list};
-ghost use Rattle.tx_list.specs.Refusals.{size_refusal, Answers};
+ghost use Rattle.tx_list.specs.Lists.{list_places, written_list, square_of_list};
+ghost use Rattle.tx_list.specs.Refusals.{list_size_refusal, AnswersList};
 
 use crate::placing::{blob_places, blobs_of};
 use crate::wrapping::{list_reserve, wrap_all};
@@ -27,7 +27,7 @@ struct Placed<'a> {
 
 /// The blobs of a list and their places.
 fn place_blobs(alloc: Global, list: &TxList) -> Result<Placed<'_>, ListError>
-    ensures first { Answers result (size_refusal list.now) }
+    ensures first { AnswersList result (list_size_refusal list.now) }
     ensures blobs { IfOk result (λ placed.
         map (λ blob. blob.now) placed.blobs.items ≡ blobs_of list.now.payments) }
     ensures reserve { IfOk result (λ placed. placed.reserve ≡ list_reserve list.now) }
@@ -61,7 +61,7 @@ fn place_blobs(alloc: Global, list: &TxList) -> Result<Placed<'_>, ListError>
 ///
 /// docs/RULES.md, "A block of the network".
 pub fn places(alloc: Global, list: &TxList) -> Result<Vec<u32>, ListError>
-    ensures first { Answers result (size_refusal list.now) }
+    ensures first { AnswersList result (list_size_refusal list.now) }
     ensures places { IfOk result (λ places. places.items ≡ list_places list.now) }
 {
     let placed = place_blobs(alloc, list)?;
@@ -77,7 +77,7 @@ pub fn places(alloc: Global, list: &TxList) -> Result<Vec<u32>, ListError>
 ///
 /// docs/RULES.md, "A block of the network"; Celestia specifications, "Square Layout".
 pub fn lay_list(alloc: Global, list: &TxList) -> Result<Square, ListError>
-    ensures first { Answers result (size_refusal list.now) }
+    ensures first { AnswersList result (list_size_refusal list.now) }
     ensures square { IfOk result (λ square. square ≡ square_of_list list.now) }
     ensures names { IfOk result (λ square.
         holds_along is_at_most (map name_in square.shares) ≡ true) }

@@ -3,11 +3,11 @@
 ghost use Rattle.std.specs.Prelude.{◌≡◌, ◌<◌, ◌&&◌, ◌+◌, ◌-◌, ◌^◌, ◌∷◌, length, min, map, not, is_some, IfOk, OnOk};
 ghost use Rattle.namespace_id.specs.Names.{namespace_refusal};
 ghost use Rattle.namespace_id.specs.Sizes.{namespace_size};
-ghost use Rattle.square_layout.specs.Refusals.{max_count};
+ghost use Rattle.square_layout.specs.Refusals.{most_told};
 ghost use Rattle.tx_list.specs.Payments.{blobs_of};
 ghost use Rattle.tx_list.specs.Unwrapped.{wrapped_tx};
-ghost use Rattle.tx_list.specs.BackRefusals.{blobs_at, places_refusal, payment_at, wrapper_refusal, wrappers_refusal, Answers};
-ghost use Rattle.tx_list.specs.Measures.{is_named_again, measure_of, measure_at, AreKnown, AreCounted};
+ghost use Rattle.tx_list.specs.BackRefusals.{blobs_at, places_refusal, payment_at, wrapper_refusal, wrappers_refusal, AnswersBack};
+ghost use Rattle.tx_list.specs.Measures.{is_named_again, measure_of, measure_at, AreKnown, HaveLengths};
 
 use crate::BackError;
 use crate::finding::blob_at;
@@ -82,7 +82,7 @@ fn measure_at(
 
 /// What some blobs ask for together with others.
 fn joined(some: Measure, others: Measure) -> Measure
-    ensures bound { result.bound ≡ min (some.bound + others.bound) max_count }
+    ensures bound { result.bound ≡ min (some.bound + others.bound) most_told }
     ensures named { result.named ≡ (some.named && others.named) }
 {
     Measure {
@@ -100,7 +100,7 @@ fn measure_places(
     known: &mut [Option<Measure>],
 ) -> Result<Measure, BackError>
     requires known { AreKnown shares.now known.old }
-    ensures first { Answers result (places_refusal i 0 shares.now places.now) }
+    ensures first { AnswersBack result (places_refusal i 0 shares.now places.now) }
     ensures measure { IfOk result (λ measure. measure ≡ measure_of (blobs_at shares.now places.now)) }
     ensures known { AreKnown shares.now known.new }
 {
@@ -129,7 +129,7 @@ fn measure_payment(
     known: &mut [Option<Measure>],
 ) -> Result<Measure, BackError>
     requires known { AreKnown shares.now known.old }
-    ensures first { Answers result (wrapper_refusal i shares.now unit.now) }
+    ensures first { AnswersBack result (wrapper_refusal i shares.now unit.now) }
     ensures measure { IfOk result (λ measure.
         measure ≡ measure_of (payment_at shares.now unit.now).blobs) }
     ensures counted { OnOk result (length (wrapped_tx unit.now) < 2 ^ 64) }
@@ -152,10 +152,10 @@ fn measure_all(
     known: &mut [Option<Measure>],
 ) -> Result<Measure, BackError>
     requires known { AreKnown shares.now known.old }
-    ensures first { Answers result (wrappers_refusal 0 shares.now units.now) }
+    ensures first { AnswersBack result (wrappers_refusal 0 shares.now units.now) }
     ensures measure { IfOk result (λ measure.
         measure ≡ measure_of (blobs_of (map (payment_at shares.now) units.now))) }
-    ensures counted { OnOk result (AreCounted units.now) }
+    ensures counted { OnOk result (HaveLengths units.now) }
 {
     let mut all = Measure {
         bound: 0,
@@ -174,10 +174,10 @@ pub(crate) fn measure_of(
     shares: &[Share],
     units: &[Unit],
 ) -> Result<Measure, BackError>
-    ensures first { Answers result (wrappers_refusal 0 shares.now units.now) }
+    ensures first { AnswersBack result (wrappers_refusal 0 shares.now units.now) }
     ensures measure { IfOk result (λ measure.
         measure ≡ measure_of (blobs_of (map (payment_at shares.now) units.now))) }
-    ensures counted { OnOk result (AreCounted units.now) }
+    ensures counted { OnOk result (HaveLengths units.now) }
 {
     let Ok(mut known) = vec![in alloc; None; shares.len()] else {
         return Err(BackError::NoMemory);

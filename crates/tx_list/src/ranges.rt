@@ -7,7 +7,7 @@ ghost use Rattle.share_split.specs.Joined.{IsBlob};
 ghost use Rattle.square_layout.specs.Refusals.{max_shares};
 ghost use Rattle.tx_list.specs.Payments.{PaymentParts, ListParts, IsPayment, blobs_of};
 ghost use Rattle.tx_list.specs.Reserves.{list_bound};
-ghost use Rattle.tx_list.specs.Refusals.{size_refusal};
+ghost use Rattle.tx_list.specs.Refusals.{list_size_refusal};
 ghost use Rattle.tx_list.specs.Lists.{list_places, square_of_list};
 ghost use Rattle.tx_list.specs.Ranges.{StatesPlaces, IsStart, IsRangeOf};
 
@@ -30,6 +30,6 @@ pub fn place_laws()
 
     // The blobs of a list that isn't refused for its size are blobs as shares are read.
     ensures blobs { (list : ListParts) → AllByRecursion IsPayment list.payments →
-        AllByRecursion IsNamed (blobs_of list.payments) → size_refusal list ≡ None →
+        AllByRecursion IsNamed (blobs_of list.payments) → list_size_refusal list ≡ None →
         AllByRecursion IsBlob (blobs_of list.payments) }
 {}

@@ -5,7 +5,7 @@ ghost use Rattle.namespace_id.specs.Answers.{Gives};
 ghost use Rattle.proto_fields.specs.Fields.{last_of, own_bytes, own_numbers, last_bytes};
 ghost use Rattle.proto_fields.specs.Values.{field_parts};
 ghost use Rattle.tx_list.specs.Reads.{are_fields, fields_in, stated};
-ghost use Rattle.tx_list.specs.Walks.{entry_of, stated_parts, lowered};
+ghost use Rattle.tx_list.specs.Walks.{blob_entry, stated_parts, lowered};
 
 use proto_fields::{Field, Value, are_fields, bytes_or, field_at, last_bytes, number_or};
 
@@ -42,7 +42,7 @@ pub(crate) fn bytes_in(bytes: &[u8], number: u32) -> &[u8]
 
 /// The blob that a field of a payment carries, if it does.
 pub(crate) fn entry_of(field: Field<'_>) -> Option<&[u8]>
-    ensures { Gives (λ x. x.now) result (entry_of (field_parts field.entry)) }
+    ensures { Gives (λ x. x.now) result (blob_entry (field_parts field.entry)) }
 {
     if field.number != ENTRY {
         return None;

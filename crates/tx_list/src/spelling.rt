@@ -5,7 +5,7 @@ ghost use Rattle.std.specs.List.{flat_map};
 ghost use Rattle.share_split.specs.Blobs.{signer_bytes};
 ghost use Rattle.proto_fields.specs.Spelled.{bytes_field};
 ghost use Rattle.tx_list.specs.Wrapped.{some_field};
-ghost use Rattle.tx_list.specs.Spelled.{version_field, blob_spelling, payment_spelling, spelled};
+ghost use Rattle.tx_list.specs.Spelled.{version_field, blob_spelling, payment_spelling, spelled_list};
 
 use crate::wrapping::put_some_field;
 use crate::{Payment, TxList};
@@ -130,7 +130,7 @@ fn push_payments(alloc: Global, payments: &[Payment], out: &mut Vec<Unit>) -> Re
 
 /// The transactions of a list in its one spelling, of which the plain ones stay where they lie.
 pub(crate) fn spelled_on(alloc: Global, list: TxList) -> Result<Vec<Unit>, NoMemory>
-    ensures { IfOk result (λ units. units.items ≡ spelled list) }
+    ensures { IfOk result (λ units. units.items ≡ spelled_list list) }
 {
     let TxList { units, payments } = list;
     let mut all = units;
@@ -143,7 +143,7 @@ pub(crate) fn spelled_on(alloc: Global, list: TxList) -> Result<Vec<Unit>, NoMem
 ///
 /// docs/RULES.md, "A block of the network".
 pub fn spell_list(alloc: Global, list: &TxList) -> Result<Vec<Unit>, NoMemory>
-    ensures { IfOk result (λ units. units.items ≡ spelled list.now) }
+    ensures { IfOk result (λ units. units.items ≡ spelled_list list.now) }
 {
     let mut all = Vec::new(alloc);
     push_units(alloc, &list.units, &mut all)?;

@@ -9,7 +9,7 @@ ghost use Rattle.tx_list.specs.Payments.{IsPayment};
 ghost use Rattle.tx_list.specs.Reads.{tx_in, blob_of, payment_of, list_of};
 ghost use Rattle.tx_list.specs.ReadRefusals.{has_version, read_refusal};
 ghost use Rattle.tx_list.specs.Refusals.{RefusesFirst};
-ghost use Rattle.tx_list.specs.Walks.{stated_parts, with_entries, with_blobs, judgement, taken_of, IsTaken, IsTakenEntry, IsTakenPayment};
+ghost use Rattle.tx_list.specs.Walks.{stated_parts, with_entries, with_blobs, judgement, taken_payments, IsTaken, IsTakenEntry, IsTakenPayment};
 
 use crate::checking::{
     Checked, Judged, entry_refusal, has_payment, judged_by, plain_with, with_checked,
@@ -158,7 +158,7 @@ fn walk<'a>(alloc: Global, i: u64, bytes: &'a [u8], blobs: &mut Vec<Blob>) -> Wa
 fn read_one(alloc: Global, i: u64, bytes: &[u8], payments: &mut Vec<Payment>) -> (Judged, bool)
     ensures judged { result.0 ≡ judgement i bytes.now }
     ensures kept { result.1 ≡ true →
-        payments.new.items ≡ payments.old.items ++ taken_of (judgement i bytes.now) bytes.now }
+        payments.new.items ≡ payments.old.items ++ taken_payments (judgement i bytes.now) bytes.now }
 {
     let mut blobs = Vec::new(alloc);
     let walked = walk(alloc, i, bytes, &mut blobs);

@@ -4,10 +4,10 @@ ghost use Rattle.std.specs.Prelude.{◌≡◌, ◌⊎◌, ◌++◌, length, map,
 ghost use Rattle.share_split.specs.Walks.{units_of};
 ghost use Rattle.tx_list.specs.declared.refusals.BackError.TheVariants.{Units, Payments, Unlike, NoMemory};
 ghost use Rattle.tx_list.specs.Reads.{list_of};
-ghost use Rattle.tx_list.specs.Spelled.{payment_spelling, spelled};
+ghost use Rattle.tx_list.specs.Spelled.{payment_spelling, spelled_list};
 ghost use Rattle.tx_list.specs.Backs.{IsBack, HaveNamedBlobs};
 ghost use Rattle.tx_list.specs.Measures.{has_square};
-ghost use Rattle.tx_list.specs.BackRefusals.{has_namespace, run_of, behind_run, first_front, second_front, front_refusal, front_units, blobs_at, places_refusal, payment_at, wrapper_refusal, wrappers_refusal, back_list, part_refusal, unlike_at, laid_refusal, back_refusal, Answers};
+ghost use Rattle.tx_list.specs.BackRefusals.{has_namespace, run_of, behind_run, first_front, second_front, front_refusal, front_units, blobs_at, places_refusal, payment_at, wrapper_refusal, wrappers_refusal, back_list, part_refusal, unlike_at, laid_refusal, back_refusal, AnswersBack};
 
 use crate::bounding::has_square;
 use crate::bounds::payments_law;
@@ -54,7 +54,7 @@ fn split_run<'a>(shares: &'a [Share], name: &Namespace) -> (&'a [Share], &'a [Sh
 
 /// The units of the first front.
 fn plain_units(alloc: Global, front: &[Share]) -> Result<Vec<Unit>, BackError>
-    ensures first { Answers result (front_refusal Units (units_of front.now)) }
+    ensures first { AnswersBack result (front_refusal Units (units_of front.now)) }
     ensures units { IfOk result (λ units. units.items ≡ front_units (units_of front.now)) }
 {
     match join_units(alloc, front) {
@@ -66,7 +66,7 @@ fn plain_units(alloc: Global, front: &[Share]) -> Result<Vec<Unit>, BackError>
 
 /// The units of the second front.
 fn pay_units(alloc: Global, front: &[Share]) -> Result<Vec<Unit>, BackError>
-    ensures first { Answers result (front_refusal Payments (units_of front.now)) }
+    ensures first { AnswersBack result (front_refusal Payments (units_of front.now)) }
     ensures units { IfOk result (λ units. units.items ≡ front_units (units_of front.now)) }
 {
     match join_units(alloc, front) {
@@ -80,7 +80,7 @@ fn pay_units(alloc: Global, front: &[Share]) -> Result<Vec<Unit>, BackError>
 
 /// The blobs at the places of payment i.
 fn blobs_at(alloc: Global, shares: &[Share], i: u64, places: &[u32]) -> Result<Vec<Blob>, BackError>
-    ensures first { Answers result (places_refusal i 0 shares.now places.now) }
+    ensures first { AnswersBack result (places_refusal i 0 shares.now places.now) }
     ensures blobs { IfOk result (λ blobs. blobs.items ≡ blobs_at shares.now places.now) }
 {
     let mut blobs = Vec::new(alloc);
@@ -100,7 +100,7 @@ fn blobs_at(alloc: Global, shares: &[Share], i: u64, places: &[u32]) -> Result<V
 
 /// Payment i, in its one spelling, which is this unit of the second front.
 fn payment_at(alloc: Global, shares: &[Share], i: u64, unit: &Unit) -> Result<Unit, BackError>
-    ensures first { Answers result (wrapper_refusal i shares.now unit.now) }
+    ensures first { AnswersBack result (wrapper_refusal i shares.now unit.now) }
     ensures payment { IfOk result (λ payment.
         payment ≡ payment_spelling (payment_at shares.now unit.now)) }
 {
@@ -124,7 +124,7 @@ fn push_payments(
     units: &[Unit],
     out: &mut Vec<Unit>,
 ) -> Result<(), BackError>
-    ensures first { Answers result (wrappers_refusal 0 shares.now units.now) }
+    ensures first { AnswersBack result (wrappers_refusal 0 shares.now units.now) }
     ensures appended { OnOk result (out.new.items
         ≡ out.old.items ++ map payment_spelling (map (payment_at shares.now) units.now)) }
 {
@@ -161,7 +161,7 @@ fn wide_refusal(
 fn transactions_in(alloc: Global, square: &Square) -> Result<Vec<Unit>, BackError>
     ensures refused { IfErr result (λ e. (e ≡ NoMemory) ⊎ (back_refusal square.now ≡ Some e)) }
     ensures parts { OnOk result (part_refusal square.now ≡ None) }
-    ensures list { IfOk result (λ transactions. transactions.items ≡ spelled (back_list square.now)) }
+    ensures list { IfOk result (λ transactions. transactions.items ≡ spelled_list (back_list square.now)) }
 {
     shares_law(&square.shares);
     let (front, behind) = split_run(&square.shares, &TRANSACTION);
@@ -201,9 +201,9 @@ fn lay_again(
     square: &Square,
     transactions: Vec<Unit>,
 ) -> Result<Vec<Unit>, BackError>
-    ensures first { Answers result (laid_refusal square.now transactions.items) }
+    ensures first { AnswersBack result (laid_refusal square.now transactions.items) }
     ensures named { OnOk result (HaveNamedBlobs transactions.items) }
-    ensures list { IfOk result (λ again. again.items ≡ spelled (list_of transactions.items)) }
+    ensures list { IfOk result (λ again. again.items ≡ spelled_list (list_of transactions.items)) }
 {
     let list = match read_list(alloc, transactions) {
         Ok(list) => list,
@@ -237,8 +237,8 @@ fn lay_again(
 ///
 /// docs/RULES.md, "A block of the network"; Celestia specifications, "Square Layout".
 pub fn unlay_list(alloc: Global, square: &Square) -> Result<Vec<Unit>, BackError>
-    ensures first { Answers result (back_refusal square.now) }
-    ensures list { IfOk result (λ transactions. transactions.items ≡ spelled (back_list square.now)) }
+    ensures first { AnswersBack result (back_refusal square.now) }
+    ensures list { IfOk result (λ transactions. transactions.items ≡ spelled_list (back_list square.now)) }
     ensures back { IfOk result (λ transactions. IsBack square.now transactions.items) }
 {
     let transactions = transactions_in(alloc, square)?;

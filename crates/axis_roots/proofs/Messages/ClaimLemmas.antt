@@ -20,7 +20,7 @@ use Rattle.axis_roots.specs.declared.message.messages.Message.{Message}
 use Rattle.axis_roots.specs.Messages.{IsMessage, position}
 use Rattle.nmt_tree.specs.Roots.{halvings, strict_root, root as tree_root}
 use Rattle.axis_roots.specs.Lines.{line_names, is_ordered_line, line_strict_root}
-use Rattle.axis_roots.specs.Claims.{ClaimParts, IsClaim, positions_of, shares_of, is_on, has_shape, IsThrough, ShowsBad, FitsRoot}
+use Rattle.axis_roots.specs.Claims.{ClaimParts, IsClaim, positions_of, claim_shares, is_on, has_shape, IsThrough, ShowsBad, FitsRoot}
 use Rattle.axis_roots.proofs.Grids.NumberLemmas.{position-lt}
 
 -- ---- the cells of a claim
@@ -80,7 +80,7 @@ shares_fit (m ∷ cells) are = (are.0.share, shares_fit cells are.1)
 word_there : (k : ℕ) (claim : ClaimParts) → is_width k ≡ true → IsClaim claim → Shape k claim → are_inside k claim.cells ≡ true
     → (word : List Share) × IsThrough k claim word
 word_there k claim width are shape inside =
-    let made = through_shares k (positions_of claim) (shares_of claim) width (positions_count k claim shape) (positions_fit k claim shape inside)
+    let made = through_shares k (positions_of claim) (claim_shares claim) width (positions_count k claim shape) (positions_fit k claim shape inside)
     (length-map claim.cells (λ m. m.share) ∙ shape.count) (shares_fit claim.cells are.messages) in
     (made.0, record { codeword = made.1; entries = made.2 })
 

@@ -28,7 +28,7 @@ use Rattle.axis_roots.specs.Openings.{IsProved}
 use Rattle.axis_roots.specs.Lines.{blank, cell_on, line_strict_root}
 use Rattle.axis_roots.specs.Grids.{share_at, axis_shares, axis_names, axis_tree, Extends, IsHeaderOf}
 use Rattle.axis_roots.specs.Own.{ShowsOwn, NamesClash}
-use Rattle.axis_roots.specs.Sets.{is_along, is_shown, along_in, names_in, set_of, set_tree, is_bare, fits_set, OpensSet}
+use Rattle.axis_roots.specs.Sets.{is_along, is_shown, along_in, sample_names, set_of, set_tree, is_bare, fits_set, OpensSet}
 use Rattle.axis_roots.specs.Claims.{ClaimParts, IsThrough, ShowsBad, claimed_root, is_set_cell, AreProved, Accepts, SetNames, IsFalseClaim}
 use Rattle.axis_roots.proofs.Grids.AxisLemmas.{cell_on-own, length-along, get_or-along}
 use Rattle.axis_roots.proofs.Grids.NumberLemmas.{position-lt}
@@ -105,7 +105,7 @@ set_shows_own k square grid axis i cells nodes root opens extends below on up ba
     let shares : List Share = axis_shares k grid axis i in
     let places : AreAscending 0 (2 ^ halvings (2 * k)) (map (λ m. position axis m.cell) ms) =
     subst (λ (n : ℕ). AreAscending 0 n (map (λ m. position axis m.cell) ms)) (sym (double_halvings k opens.width)) (set_ascending k axis cells up bare) in
-    let listed = set_agreed (halvings (2 * k)) (map (λ m. position axis m.cell) ms) (names_in k ms) (map (λ m. m.share) ms) nodes names shares
+    let listed = set_agreed (halvings (2 * k)) (map (λ m. position axis m.cell) ms) (sample_names k ms) (map (λ m. m.share) ms) nodes names shares
     (set_opening k axis cells nodes root opens) places (leaves_are k square grid axis i opens.width extends below) same in
     own_along k grid axis i cells on (bare_inside k axis cells bare)
     (along-each (λ m. slice_get shares (position axis m.cell) ≡ Some m.share) axis cells (listed_shares k axis ms names shares listed.0))

@@ -21,7 +21,7 @@ use Rattle.nmt_proofs.proofs.Sets.FewLemmas.{set_few}
 use Rattle.data_header.specs.Headers.{Roots}
 use Rattle.axis_roots.specs.declared.message.messages.Message.{Message}
 use Rattle.axis_roots.specs.Messages.{IsMessage, position}
-use Rattle.axis_roots.specs.Sets.{is_along, is_shown, along_in, names_in, set_of, is_bare, fits_set, OpensSet}
+use Rattle.axis_roots.specs.Sets.{is_along, is_shown, along_in, sample_names, set_of, is_bare, fits_set, OpensSet}
 use Rattle.axis_roots.specs.Claims.{ClaimParts, is_set_cell, has_set_shape, AreProved, Accepts}
 use Rattle.axis_roots.proofs.Messages.ClaimLemmas.{are_inside, shape_of}
 use Rattle.axis_roots.proofs.Grids.NumberLemmas.{position-lt}
@@ -151,7 +151,7 @@ some_along axis (m ∷ cells) h =
 -- ---- what it shows
 
 -- samples show leaves
-leaves_shown : (k : ℕ) (axis : Axis) (ms : List Message) → AllByRecursion IsMessage ms → AreShown (leaves_at (map (λ m. position axis m.cell) ms) (names_in k ms) (map (λ m. m.share) ms))
+leaves_shown : (k : ℕ) (axis : Axis) (ms : List Message) → AllByRecursion IsMessage ms → AreShown (leaves_at (map (λ m. position axis m.cell) ms) (sample_names k ms) (map (λ m. m.share) ms))
 unfolding leaves_at
 leaves_shown k axis [] h = tt
 leaves_shown k axis (m ∷ ms) h = ((refl, name_of-is k m.cell m.share h.0.share, h.0.share), leaves_shown k axis ms h.1)
@@ -167,7 +167,7 @@ set_opening k axis cells nodes root h = record {
 
 -- of a list's leaves it shows the shares
 pub listed_shares : (k : ℕ) (axis : Axis) (ms : List Message) (ns : List Namespace) (ss : List Share)
-    → AreLeavesOf ns ss (map (λ m. position axis m.cell) ms) (names_in k ms) (map (λ m. m.share) ms)
+    → AreLeavesOf ns ss (map (λ m. position axis m.cell) ms) (sample_names k ms) (map (λ m. m.share) ms)
     → AllByRecursion (λ m. slice_get ss (position axis m.cell) ≡ Some m.share) ms
 unfolding AreLeavesOf
 listed_shares k axis [] ns ss h = tt
@@ -183,14 +183,14 @@ opened_few k axis cells nodes root opens up fits =
     let ms : List Message = along_in axis cells in
     let places : List ℕ = map (λ m. position axis m.cell) ms in
     let placed : length places ≡ length ms = length-map ms (λ m. position axis m.cell) in
-    let named : length (names_in k ms) ≡ length places = length-map ms _ ∙ sym placed in
+    let named : length (sample_names k ms) ≡ length places = length-map ms _ ∙ sym placed in
     let shared : length (map (λ m. m.share) ms) ≡ length places = length-map ms _ ∙ sym placed in
     let double : halvings (2 * k) ≡ suc (halvings k) = halvings_double k opens.width in
     let ascend : AreAscending 0 (2 ^ suc (halvings k)) places =
     subst (λ (n : ℕ). AreAscending 0 n places) (sym (double_halvings k opens.width) ∙ ap (λ (h : ℕ). 2 ^ h) double) (set_ascending k axis cells up tests.1) in
     let some : 0 < length places = omega (arith, some_along axis cells tests.0, placed) in
     let few : length (outside (suc (halvings k)) 0 (set_of k axis cells)) ≤ 2 ^ halvings k =
-    set_few (halvings k) places (names_in k ms) (map (λ m. m.share) ms) some named shared ascend in
+    set_few (halvings k) places (sample_names k ms) (map (λ m. m.share) ms) some named shared ascend in
     let count : length nodes ≡ length (outside (halvings (2 * k)) 0 (set_of k axis cells)) = eqb-true _ _ opens.opens.count in
     let sized : length nodes ≡ length (outside (suc (halvings k)) 0 (set_of k axis cells)) =
     count ∙ ap (λ (h : ℕ). length (outside h 0 (set_of k axis cells))) double in

@@ -16,7 +16,7 @@ use Rattle.da_wire.proofs.WalkLemmas.{walk_stop}
 use Rattle.da_status.specs.declared.status.Asked.TheVariants.{Count}
 use Rattle.da_status.specs.declared.status.Status.{Status}
 use Rattle.da_status.specs.declared.status.Status.TheVariants.{Done, BadRequest}
-use Rattle.da_status.specs.Statuses.{kind_of}
+use Rattle.da_status.specs.Statuses.{status_kind}
 use Rattle.da_status.specs.Judging.{first_bad, Judged}
 use Rattle.da_status.specs.Outcome.{Relation}
 use Rattle.da_status.proofs.EndLemmas.{IsAnswer, status_answers}
@@ -87,15 +87,15 @@ asks_done axis (light.Rejected claim) w status asks = absurd asks
 
 -- what is answered to a count is an answer
 limit_answers : (over : Bool) (axis : Axis) (header : Roots) (plan : List Cell) (w : List ℕ) (status : Status)
-    → by_limit over axis header plan w status → IsAnswer (kind_of status)
+    → by_limit over axis header plan w status → IsAnswer (status_kind status)
 limit_answers true axis header plan w status h = status_answers status (BadRequest Count) h.1 tt
 limit_answers false axis header plan w status h = status_answers status Done (asks_done axis h.0 w status h.2) tt
 
 -- what cells answers to its file is an answer
 pub cells_answers : (key : List ℕ) (count : ℕ) (axis : Axis) (files : List (List ℕ)) (w : List ℕ) (status : Status)
-    → CellsOf key count axis files w status → IsAnswer (kind_of status)
+    → CellsOf key count axis files w status → IsAnswer (status_kind status)
 cells_answers key count axis files w status r =
-    over_each (AsksFirst axis key count) (header_in (header_file files)) w status (IsAnswer (kind_of status))
+    over_each (AsksFirst axis key count) (header_in (header_file files)) w status (IsAnswer (status_kind status))
     (λ h. limit_answers (nat_lt (draw_limit h.k) count) axis h (drawn_cells key h.k count) w status) r
 
 -- ---- a key in a file
@@ -123,7 +123,7 @@ module _ (files : List (List ℕ)) (fine : first_bad 0 (single_judged header_in 
 
 -- what cells answers to a key in a file is an answer
 pub cells_by_answers : (count : ℕ) (axis : Axis) (files : List (List ℕ)) (w : List ℕ) (status : Status)
-    → CellsByOf count axis files w status → IsAnswer (kind_of status)
+    → CellsByOf count axis files w status → IsAnswer (status_kind status)
 cells_by_answers count axis files w status r =
-    over_each (λ key. CellsOf key count axis files) (key_file_in (cells_key_file files)) w status (IsAnswer (kind_of status))
+    over_each (λ key. CellsOf key count axis files) (key_file_in (cells_key_file files)) w status (IsAnswer (status_kind status))
     (λ key. cells_answers key count axis files w status) r

@@ -6,14 +6,14 @@ use Rattle.std.proofs.lemmas.List.{at_drop_more}
 use Rattle.da_demo.specs.declared.outcomes.Trial.{Trial}
 use Rattle.da_status.specs.declared.status.Status.{Status}
 use Rattle.da_status.specs.declared.status.Status.TheVariants.{Done}
-use Rattle.da_status.specs.Statuses.{kind_of}
+use Rattle.da_status.specs.Statuses.{status_kind}
 use Rattle.da_status.specs.Outcome.{Ends}
-use Rattle.da_commands.specs.Demo.{trial_lines, trial_bytes, Tells, DemoOf}
+use Rattle.da_commands.specs.Demo.{trial_lines, trial_bytes, TellsTrial, DemoOf}
 use Rattle.da_status.proofs.EndLemmas.{IsAnswer, status_answers, ends_output}
 use Rattle.da_status.proofs.WriteLemmas.{Written}
 
 -- what demo answers comes with a complete output
-pub demo_answers : (number k : ℕ) (w : List ℕ) (status : Status) → DemoOf number k w status → IsAnswer (kind_of status)
+pub demo_answers : (number k : ℕ) (w : List ℕ) (status : Status) → DemoOf number k w status → IsAnswer (status_kind status)
 demo_answers number k w status h = status_answers status Done h.2.1 tt
 
 module _ (trial : Trial) where
@@ -28,7 +28,7 @@ module _ (trial : Trial) where
 
   -- all lines were written
   pub tells_done : (i : ℕ) (old new : Option (List ℕ)) (before now : ℕ) (Same : Type 0) → i ≡ 9 → Written old new (trial_bytes trial) (bytes_from i)
-      → now ≡ before → (IsSome old ↔ IsSome new) → Ends (Tells trial) old new before now Same Done
+      → now ≡ before → (IsSome old ↔ IsSome new) → Ends (TellsTrial trial) old new before now Same Done
   tells_done i old new before now Same last w counted told =
       let whole : trial_bytes trial ≡ w.0 = w.2 ∙ ap (λ (n : ℕ). w.0 ++ bytes_from n) last ∙ append-nil w.0 in
-      ends_output (Tells trial) w.0 Done old new before now Same refl (sym whole, refl) w.1 counted told
+      ends_output (TellsTrial trial) w.0 Done old new before now Same refl (sym whole, refl) w.1 counted told

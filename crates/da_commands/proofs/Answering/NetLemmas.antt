@@ -5,11 +5,11 @@ use Rattle.data_header.specs.Headers.{Roots}
 use Rattle.da_wire.specs.Reading.{Raw}
 use Rattle.da_wire.specs.Frames.{frames_of, bad_frame}
 use Rattle.da_script.specs.Scripts.{moves_of, bad_script}
-use Rattle.da_script.specs.Plays.{items_in, item_sizes, is_refused, first_net, Tells}
+use Rattle.da_script.specs.Plays.{items_in, item_sizes, is_refused, first_net, TellsPlay}
 use Rattle.da_status.specs.declared.status.Asked.TheVariants.{Nodes}
 use Rattle.da_status.specs.declared.status.Status.{Status}
 use Rattle.da_status.specs.declared.status.Status.TheVariants.{Done, BadRequest}
-use Rattle.da_status.specs.Statuses.{kind_of}
+use Rattle.da_status.specs.Statuses.{status_kind}
 use Rattle.da_status.specs.Outcome.{Relation, Refuses}
 use Rattle.da_status.specs.Judging.{first_bad}
 use Rattle.da_status.proofs.EndLemmas.{IsAnswer, status_answers}
@@ -52,7 +52,7 @@ module _ (files : List (List ℕ)) (h : Roots) (messages script : List ℕ) (fin
 -- the lines, by whether the network is too large
 abbrev lines_by : Bool → Roots → List Raw → List ℕ → Relation
 lines_by over header raws script = Limited over
-    (λ w status. Tells (items_in raws) (first_net header (moves_of (length (items_in raws)) script) script)
+    (λ w status. TellsPlay (items_in raws) (first_net header (moves_of (length (items_in raws)) script) script)
     (moves_of (length (items_in raws)) script) w × (status ≡ Done))
 
 -- whether the network of a script is too large
@@ -71,12 +71,12 @@ nets_within header raws script within = sym (ap (λ (b : Bool). lines_by b heade
 
 -- its lines, as one text
 pub nets_told : (header : Roots) (raws : List Raw) (script text : List ℕ) → too_large header raws script ≡ false
-    → Tells (items_in raws) (first_net header (moves_of (length (items_in raws)) script) script)
+    → TellsPlay (items_in raws) (first_net header (moves_of (length (items_in raws)) script) script)
     (moves_of (length (items_in raws)) script) text
     → (w : List ℕ) (status : Status) → (w ≡ text) × (status ≡ Done) → Nets header raws script w status
 nets_told header raws script text within told w status h =
     subst (λ (M : Relation). M w status) (nets_within header raws script within) (
-      subst (λ (bytes : List ℕ). Tells (items_in raws) (first_net header (moves_of (length (items_in raws)) script) script)
+      subst (λ (bytes : List ℕ). TellsPlay (items_in raws) (first_net header (moves_of (length (items_in raws)) script) script)
           (moves_of (length (items_in raws)) script) bytes) (sym h.0) told,
       h.1,
     )
@@ -89,15 +89,15 @@ nets_refused header raws script over =
 
 -- what is answered by whether the network is too large is an answer
 lines_answer : (over : Bool) (header : Roots) (raws : List Raw) (script w : List ℕ) (status : Status)
-    → lines_by over header raws script w status → IsAnswer (kind_of status)
+    → lines_by over header raws script w status → IsAnswer (status_kind status)
 lines_answer true header raws script w status h = status_answers status (BadRequest Nodes) h.1 tt
 lines_answer false header raws script w status h = status_answers status Done h.1 tt
 
 -- what net answers to its files is an answer
 pub net_answers : (files : List (List ℕ)) (w : List ℕ) (status : Status) → NetOf files w status
-    → IsAnswer (kind_of status)
+    → IsAnswer (status_kind status)
 net_answers files w status r =
     let raws = frames_of (messages_file files) in
     let script = script_file files in
-    over_each (λ h. Nets h raws script) (header_in (header_file files)) w status (IsAnswer (kind_of status))
+    over_each (λ h. Nets h raws script) (header_in (header_file files)) w status (IsAnswer (status_kind status))
     (λ h. lines_answer (too_large h raws script) h raws script w status) r

@@ -23,10 +23,10 @@ use Rattle.da_wire.specs.Values.{value_in, values_of, bad_value}
 use Rattle.da_wire.proofs.WalkLemmas.{walk_on}
 use Rattle.da_status.specs.declared.status.Status.{Status}
 use Rattle.da_status.specs.declared.status.Status.TheVariants.{Done, NoMemory, WriteFault, BadInput}
-use Rattle.da_status.specs.Statuses.{kind_of}
+use Rattle.da_status.specs.Statuses.{status_kind}
 use Rattle.da_status.specs.Outcome.{Relation, Refuses, Ends}
 use Rattle.da_status.specs.Judging.{Judged}
-use Rattle.da_commands.specs.Show.{all_kinds, line_of, shown_bytes, all_shown, shown_file, Shows, show_judged}
+use Rattle.da_commands.specs.Show.{all_kinds, shown_line, shown_bytes, all_shown, shown_file, ShowsFrames, show_judged}
 use Rattle.da_status.proofs.EndLemmas.{IsAnswer, status_answers, ends_output, ends_after}
 use Rattle.da_status.proofs.WriteLemmas.{Written}
 
@@ -48,11 +48,11 @@ module _ (files : List (List ℕ)) (Answer : Relation) where
 -- ---- the frames
 
 -- what is shown comes with a complete output
-pub shows_answers : (shown : Frame → List ℕ) (frames : List Frame) (w : List ℕ) (status : Status) → Shows shown frames w status → IsAnswer (kind_of status)
+pub shows_answers : (shown : Frame → List ℕ) (frames : List Frame) (w : List ℕ) (status : Status) → ShowsFrames shown frames w status → IsAnswer (status_kind status)
 shows_answers shown frames w status shows = status_answers status Done shows.1 tt
 
 -- the next frame's line comes next
-pub next_shown : (shown : Frame → List ℕ) (values later : List Frame) (frame : Frame) (text : List ℕ) → values ≡ frame ∷ later → text ≡ line_of shown frame
+pub next_shown : (shown : Frame → List ℕ) (values later : List Frame) (frame : Frame) (text : List ℕ) → values ≡ frame ∷ later → text ≡ shown_line shown frame
     → shown_bytes shown values ≡ text ++ shown_bytes shown later
 next_shown shown values later frame text parts is =
     ap (shown_bytes shown) parts ∙ ap (λ (l : List ℕ). l ++ shown_bytes shown later) (sym is)
@@ -60,7 +60,7 @@ next_shown shown values later frame text parts is =
 -- of a frame at least the line feed is shown
 shown-some : (shown : Frame → List ℕ) (frame : Frame) (later : List Frame) → 0 < length (shown_bytes shown (frame ∷ later))
 shown-some shown frame later =
-    omega (arith, length-append (line_of shown frame) (shown_bytes shown later), length-append (shown frame) (10 ∷ []))
+    omega (arith, length-append (shown_line shown frame) (shown_bytes shown later), length-append (shown frame) (10 ∷ []))
 
 -- of frames of which there is a first one something is shown
 pub shown-first : (shown : Frame → List ℕ) (values later : List Frame) (frame : Frame) → values ≡ frame ∷ later → 0 < length (shown_bytes shown values)
@@ -184,14 +184,14 @@ module _ (shown : Frame → List ℕ) (bytes text : List ℕ) (found : Option (B
 module _ (shown : Frame → List ℕ) (frames : List Frame) (old new : Option (List ℕ)) (before now : ℕ) (Same : Type 0) where
   -- all frames were shown
   pub shows_done : (rest : List Frame) → Written old new (shown_bytes shown frames) (shown_bytes shown rest) → rest ≡ [] → now ≡ before → (IsSome old ↔ IsSome new)
-      → Ends (Shows shown frames) old new before now Same Done
+      → Ends (ShowsFrames shown frames) old new before now Same Done
   shows_done rest w none counted told =
       let whole : shown_bytes shown frames ≡ w.0 = w.2 ∙ ap (λ (l : List Frame). w.0 ++ shown_bytes shown l) none ∙ append-nil w.0 in
-      ends_output (Shows shown frames) w.0 Done old new before now Same refl (sym whole, refl) w.1 counted told
+      ends_output (ShowsFrames shown frames) w.0 Done old new before now Same refl (sym whole, refl) w.1 counted told
 
   -- memory ran out before the next frame was shown
   pub shows_memory : (rest : List ℕ) → Written old new (shown_bytes shown frames) rest → 0 < length rest → now ≡ before → (IsSome old ↔ IsSome new)
-      → Ends (Shows shown frames) old new before now Same NoMemory
+      → Ends (ShowsFrames shown frames) old new before now Same NoMemory
   shows_memory rest w more counted told = record {
     leaves = (w.0, w.1, inr (shown_bytes shown frames, Done, (refl, refl), (rest, more, w.2)));
     faults = counted;
@@ -204,9 +204,9 @@ module _ (shown : Frame → List ℕ) (frames : List Frame) (old mid new : Optio
   -- what was held was given to the output, and then the run ended
   pub shows_after : {T E : Type 0} (wrote : Result T E) (status : Status) → Written old mid (shown_bytes shown frames) (held ++ rest) → now ≡ before
       → (IsSome old ↔ IsSome mid) → (IsSome mid ↔ IsSome new) → WritesAll mid new held wrote → CountsFault now later wrote
-      → (Written old new (shown_bytes shown frames) rest → later ≡ before → (IsSome old ↔ IsSome new) → Ends (Shows shown frames) old new before later Same status)
-      → Ends (Shows shown frames) old new before later Same (cond (is_ok wrote) status WriteFault)
+      → (Written old new (shown_bytes shown frames) rest → later ≡ before → (IsSome old ↔ IsSome new) → Ends (ShowsFrames shown frames) old new before later Same status)
+      → Ends (ShowsFrames shown frames) old new before later Same (cond (is_ok wrote) status WriteFault)
   shows_after wrote status w counted told also taken faults ends =
       let both : IsSome old ↔ IsSome new = (λ s. also.0 (told.0 s), λ s. told.1 (also.1 s)) in
-      ends_after (Shows shown frames) (shown_bytes shown frames) rest held Done old mid new before now later Same wrote status (refl, refl) w counted both taken faults
+      ends_after (ShowsFrames shown frames) (shown_bytes shown frames) rest held Done old mid new before now later Same wrote status (refl, refl) w counted both taken faults
       (λ v counts. ends v counts both)

@@ -2,7 +2,7 @@
 
 ghost use Rattle.std.specs.Prelude.{◌≡◌, ◌++◌, OnOk};
 ghost use Rattle.std.specs.String.{string_bytes};
-ghost use Rattle.da_show.specs.JsonTexts.{list_text, root_text, share_text, range_text, absence_text, found_text, entry_text, place_text, cell_text, cell_of_text, length_text, signer_text, blob_end, blob_text};
+ghost use Rattle.da_show.specs.JsonTexts.{list_text, root_text, share_text, range_text, absence_text, found_text, entry_text, entry_place_text, cell_text, cell_of_text, length_text, signer_text, blob_end, blob_text};
 
 use super::parts::{put_comma, put_hex, put_name};
 use crate::words::{put_number, put_size};
@@ -101,7 +101,7 @@ pub(crate) fn put_entries(out: &mut String, entries: &[NsEntry]) -> Result<(), A
 
 /// Appends where an entry found something.
 fn put_place(out: &mut String, entry: &EntryPlace) -> Result<(), AllocError>
-    ensures { OnOk result (string_bytes out.new ≡ string_bytes out.old ++ place_text entry.now) }
+    ensures { OnOk result (string_bytes out.new ≡ string_bytes out.old ++ entry_place_text entry.now) }
 {
     match entry.found {
         FoundPlace::Range { start, count } => put_range(out, entry.row, start, count as usize),
@@ -112,7 +112,7 @@ fn put_place(out: &mut String, entry: &EntryPlace) -> Result<(), AllocError>
 /// Appends a list of where entries found something.
 pub(crate) fn put_places(out: &mut String, places: &[EntryPlace]) -> Result<(), AllocError>
     ensures { OnOk result (string_bytes out.new
-        ≡ string_bytes out.old ++ list_text place_text places.now) }
+        ≡ string_bytes out.old ++ list_text entry_place_text places.now) }
 {
     out.push('[')?;
     let mut later = false;

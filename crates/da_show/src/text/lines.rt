@@ -3,7 +3,7 @@
 ghost use Rattle.std.specs.Prelude.{◌≡◌, ◌++◌, length, OnOk};
 ghost use Rattle.std.specs.String.{string_bytes};
 ghost use Rattle.da_show.specs.Parts.{axis_word};
-ghost use Rattle.da_show.specs.Text.{header_line, square_line, names_line, claim_line, missing_line, counts, sized_line, block_line, string_line, request_line, sample_line, cell_line, place, place_line, range_line, absence_line, root_line, share_line, message_line, found_line, unit_line, blob_line, commit_line, rooted_line, transactions_line, refusal_line, state_line};
+ghost use Rattle.da_show.specs.Text.{header_line, square_line, names_line, claim_line, missing_line, counts, sized_line, block_line, string_line, request_line, sample_line, cell_line, place, place_line, range_line, absence_line, axis_root_line, share_line, message_line, row_line, unit_line, block_blob_line, commit_line, rooted_line, transactions_line, refusal_line, state_line};
 
 use crate::words::{
     axis_word, digest_word, hash_word, name_word, put_number, share_hash_word, share_name_word,
@@ -36,7 +36,7 @@ pub(crate) fn put_root(
     root: &Digest,
 ) -> Result<(), AllocError>
     ensures { OnOk result (string_bytes out.new
-        ≡ string_bytes out.old ++ root_line (axis_word axis) number root.now) }
+        ≡ string_bytes out.old ++ axis_root_line (axis_word axis) number root.now) }
 {
     let axis = axis_word(axis);
     let digest = digest_word(alloc, root)?;
@@ -112,7 +112,7 @@ pub(crate) fn put_names(
 /// What is found in a row.
 pub(crate) fn put_found(out: &mut String, row: u16, found: &Found) -> Result<(), AllocError>
     ensures { OnOk result (string_bytes out.new
-        ≡ string_bytes out.old ++ found_line row found.now) }
+        ≡ string_bytes out.old ++ row_line row found.now) }
 {
     match found {
         Found::Range { start, shares, .. } => {
@@ -275,7 +275,7 @@ pub(crate) fn put_unit(out: &mut String, word: &str, unit: &Unit) -> Result<(), 
 
 /// A blob: its namespace, its length and its signer, if it has one.
 pub(crate) fn put_blob(alloc: Global, out: &mut String, blob: &Blob) -> Result<(), AllocError>
-    ensures { OnOk result (string_bytes out.new ≡ string_bytes out.old ++ blob_line blob.now) }
+    ensures { OnOk result (string_bytes out.new ≡ string_bytes out.old ++ block_blob_line blob.now) }
 {
     let name = name_word(alloc, &blob.namespace)?;
     let size = blob.bytes.len();

@@ -3,7 +3,7 @@
 ghost use Rattle.std.specs.Prelude.{◌≡◌, ◌++◌, map, OnOk};
 ghost use Rattle.std.specs.String.{string_bytes};
 ghost use Rattle.da_show.specs.Parts.{axis_word};
-ghost use Rattle.da_show.specs.Text.{following, numbered, root_line, share_line, message_line, entry_line, place_line, cell_line, unit_line, blob_line};
+ghost use Rattle.da_show.specs.Text.{following, numbered_lines, axis_root_line, share_line, message_line, entry_line, place_line, cell_line, unit_line, block_blob_line};
 
 use super::lines::{
     put_blob, put_cell, put_found, put_message, put_place_line, put_root, put_share, put_unit,
@@ -22,7 +22,7 @@ pub(crate) fn put_roots(
     roots: &[Digest],
 ) -> Result<(), AllocError>
     ensures { OnOk result (string_bytes out.new ≡ string_bytes out.old
-        ++ following (numbered (root_line (axis_word axis)) 0 roots.now)) }
+        ++ following (numbered_lines (axis_root_line (axis_word axis)) 0 roots.now)) }
 {
     for i in 0..roots.len() {
         out.push('\n')?;
@@ -38,7 +38,7 @@ pub(crate) fn put_shares(
     shares: &[Share],
 ) -> Result<(), AllocError>
     ensures { OnOk result (string_bytes out.new ≡ string_bytes out.old
-        ++ following (numbered share_line 0 shares.now)) }
+        ++ following (numbered_lines share_line 0 shares.now)) }
 {
     for i in 0..shares.len() {
         out.push('\n')?;
@@ -114,7 +114,7 @@ pub(crate) fn put_units(out: &mut String, word: &str, units: &[Unit]) -> Result<
 /// Blobs.
 pub(crate) fn put_blobs(alloc: Global, out: &mut String, blobs: &[Blob]) -> Result<(), AllocError>
     ensures { OnOk result (string_bytes out.new ≡ string_bytes out.old
-        ++ following (map blob_line blobs.now)) }
+        ++ following (map block_blob_line blobs.now)) }
 {
     for blob in blobs {
         out.push('\n')?;

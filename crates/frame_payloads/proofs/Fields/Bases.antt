@@ -15,7 +15,7 @@ use Rattle.namespace_id.specs.declared.cells.Cell.{Cell}
 use Rattle.namespace_id.specs.declared.namespaces.Namespace.{Namespace}
 use Rattle.namespace_id.specs.declared.shares.Share.{Share}
 use Rattle.data_header.specs.Paths.{most_hashes}
-use Rattle.frame_fields.specs.Fields.{byte_at, number_at, string_at, cell_at, axis_at, path_at, hashes_at, digest_list_at, text_at, list_at}
+use Rattle.frame_fields.specs.Fields.{byte_at, big_endian_at, string_at, cell_at, axis_at, path_at, hashes_at, digest_list_at, text_at, list_at}
 use Rattle.frame_payloads.specs.codec.Texts.{axis_byte, cell_bytes, path_bytes, digest_list, text_bytes, list_bytes, IsCell}
 use Rattle.frame_payloads.specs.kinds.Commit.{hash_bytes}
 use Rattle.frame_payloads.proofs.Fields.Numbers.{IsWide, wide16, wide32, number_takes, number_again}
@@ -39,7 +39,7 @@ tail_few w tail n few = omega (arith, few, length-append (to_be_bytes w n) tail)
 
 -- a number of this width
 abbrev pub number : {R : Type 0} (w : Width) (limit : ℕ) → IsWide w limit → Fields R ℕ
-number w limit wide = one (number_at w) (to_be_bytes w) (λ n. n < limit) (number_takes w limit wide) (λ n rest is few. number_again w limit wide n rest is)
+number w limit wide = one (big_endian_at w) (to_be_bytes w) (λ n. n < limit) (number_takes w limit wide) (λ n rest is few. number_again w limit wide n rest is)
 
 -- a number of two bytes
 abbrev pub number16 : {R : Type 0} → Fields R ℕ

@@ -8,7 +8,7 @@ use Rattle.namespace_id.specs.declared.cells.Cell.{Cell}
 use Rattle.namespace_id.specs.Bytes.{AreBytes}
 use Rattle.namespace_id.specs.Cells.{cell_in}
 use Rattle.namespace_id.proofs.StringLemmas.{AreBytes-take, AreBytes-drop}
-use Rattle.frame_fields.specs.Fields.{◌>>=◌, number_at, cells_of, cell_at}
+use Rattle.frame_fields.specs.Fields.{◌>>=◌, big_endian_at, cells_of, cell_at}
 use Rattle.frame_payloads.specs.codec.Texts.{cell_bytes, IsCell}
 use Rattle.frame_payloads.proofs.Fields.Readers.{bind_some, bind_again, Takes, Takes-then, Takes-read}
 use Rattle.frame_payloads.proofs.Fields.Numbers.{wide16, number_takes, number_again}
@@ -21,15 +21,15 @@ after_col row col = Some (cell_in row col.0, col.1)
 
 -- what `cell_at` does after the row
 abbrev after_row : ℕ × List ℕ → Option (Cell × List ℕ)
-after_row row = number_at w16 row.1 >>= after_col row.0
+after_row row = big_endian_at w16 row.1 >>= after_col row.0
 
 -- a cell that is read is the one that was written
 pub cell_takes : (bytes : List ℕ) (c : Cell) (rest : List ℕ) → AreBytes bytes → cell_at bytes ≡ Some (c, rest) → Takes bytes (cell_bytes c) rest × IsCell c
 unfolding cell_at
 cell_takes bytes c rest fits e =
     let read : Cell × List ℕ = (c, rest) in
-    let a = bind_some (number_at w16 bytes) after_row read e in
-    let b = bind_some (number_at w16 a.0.1) (after_col a.0.0) read a.2 in
+    let a = bind_some (big_endian_at w16 bytes) after_row read e in
+    let b = bind_some (big_endian_at w16 a.0.1) (after_col a.0.0) read a.2 in
     let t = number_takes w16 (2 ^ 16) wide16 bytes a.0.0 a.0.1 fits a.1 in
     let u = number_takes w16 (2 ^ 16) wide16 a.0.1 b.0.0 b.0.1 t.0.rest_fits b.1 in
     Takes-read cell_bytes IsCell bytes (cell_in a.0.0 b.0.0) c b.0.1 rest b.2 (record { row = t.1; col = u.1 })
@@ -41,8 +41,8 @@ unfolding cell_at
 cell_again c rest is =
     let tail : List ℕ = to_be_bytes w16 c.col ++ rest in
     let read : Cell × List ℕ = (c, rest) in
-    let col : after_row (c.row, tail) ≡ Some read = bind_again (number_at w16 tail) (after_col c.row) (c.col, rest) read (number_again w16 (2 ^ 16) wide16 c.col rest is.col) refl in
-    bind_again (number_at w16 (cell_bytes c ++ rest)) after_row (c.row, tail) read (number_again w16 (2 ^ 16) wide16 c.row tail is.row) col
+    let col : after_row (c.row, tail) ≡ Some read = bind_again (big_endian_at w16 tail) (after_col c.row) (c.col, rest) read (number_again w16 (2 ^ 16) wide16 c.col rest is.col) refl in
+    bind_again (big_endian_at w16 (cell_bytes c ++ rest)) after_row (c.row, tail) read (number_again w16 (2 ^ 16) wide16 c.row tail is.row) col
 
 -- ---- cells one after another
 

@@ -4,7 +4,7 @@ use Rattle.std.specs.Int.{Width, w16, w32, w64, byte_len, from_be_bytes, to_be_b
 use Rattle.std.proofs.lemmas.Nat.{be_bytes_2, be_bytes_4, be_bytes_8, from_be_bytes-to_be_bytes_2, from_be_bytes-to_be_bytes_4, from_be_bytes-to_be_bytes_8}
 use Rattle.namespace_id.specs.Bytes.{AreBytes}
 use Rattle.std.proofs.lemmas.Option.{some_pair_parts}
-use Rattle.frame_fields.specs.Fields.{number_at, count_at}
+use Rattle.frame_fields.specs.Fields.{big_endian_at, count_at}
 use Rattle.frame_payloads.proofs.Fields.Readers.{bind_some, bind_again, if_false, if_false_again, Takes, Takes-is, front_takes, front_again}
 
 -- numbers below a limit are strings of one length, and back
@@ -42,7 +42,7 @@ wide64 = record {
 }
 
 -- a number that is read is the one that was written, and fits its width
-pub number_takes : (w : Width) (limit : ℕ) (wide : IsWide w limit) (bytes : List ℕ) (n : ℕ) (rest : List ℕ) → AreBytes bytes → number_at w bytes ≡ Some (n, rest)
+pub number_takes : (w : Width) (limit : ℕ) (wide : IsWide w limit) (bytes : List ℕ) (n : ℕ) (rest : List ℕ) → AreBytes bytes → big_endian_at w bytes ≡ Some (n, rest)
     → Takes bytes (to_be_bytes w n) rest × (n < limit)
 number_takes w limit wide bytes n rest fits e =
     let t = front_takes (from_be_bytes w) (byte_len w) bytes n rest fits e in
@@ -50,9 +50,9 @@ number_takes w limit wide bytes n rest fits e =
     (Takes-is bytes (take (byte_len w) bytes) (to_be_bytes w n) rest rest (sym spelled) refl t.2, subst (λ (m : ℕ). m < limit) t.1 (wide.below (take (byte_len w) bytes) t.0.fits))
 
 -- a number that fits its width and was written is read, whatever follows it
-pub number_again : (w : Width) (limit : ℕ) (wide : IsWide w limit) (n : ℕ) (rest : List ℕ) → n < limit → number_at w (to_be_bytes w n ++ rest) ≡ Some (n, rest)
+pub number_again : (w : Width) (limit : ℕ) (wide : IsWide w limit) (n : ℕ) (rest : List ℕ) → n < limit → big_endian_at w (to_be_bytes w n ++ rest) ≡ Some (n, rest)
 number_again w limit wide n rest lt =
-    subst (λ (m : ℕ). number_at w (to_be_bytes w n ++ rest) ≡ Some (m, rest)) (wide.again n lt) (front_again (from_be_bytes w) (byte_len w) (to_be_bytes w n) rest (wide.len n))
+    subst (λ (m : ℕ). big_endian_at w (to_be_bytes w n ++ rest) ≡ Some (m, rest)) (wide.again n lt) (front_again (from_be_bytes w) (byte_len w) (to_be_bytes w n) rest (wide.len n))
 
 -- ---- a number that has a limit
 
@@ -65,7 +65,7 @@ pub count_takes : (w : Width) (bound : ℕ) (wide : IsWide w bound) (limit : ℕ
     → Takes bytes (to_be_bytes w n) rest × (n ≤ limit)
 unfolding count_at
 count_takes w bound wide limit bytes n rest fits e =
-    let a = bind_some (number_at w bytes) (within limit) (n, rest) e in
+    let a = bind_some (big_endian_at w bytes) (within limit) (n, rest) e in
     let g = if_false (ltb limit a.0.0) (Some a.0) (n, rest) a.2 in
     let same = some_pair_parts a.0.0 n a.0.1 rest g.1 in
     ((number_takes w bound wide bytes n rest fits (a.1 ∙ g.1)).0, subst (λ (m : ℕ). m ≤ limit) same.0 (ltb-false limit a.0.0 g.0))
@@ -74,7 +74,7 @@ count_takes w bound wide limit bytes n rest fits e =
 pub count_few : (w : Width) (limit : ℕ) (bytes : List ℕ) (n : ℕ) (rest : List ℕ) → count_at w limit bytes ≡ Some (n, rest) → n ≤ limit
 unfolding count_at
 count_few w limit bytes n rest e =
-    let a = bind_some (number_at w bytes) (within limit) (n, rest) e in
+    let a = bind_some (big_endian_at w bytes) (within limit) (n, rest) e in
     let g = if_false (ltb limit a.0.0) (Some a.0) (n, rest) a.2 in
     let same = some_pair_parts a.0.0 n a.0.1 rest g.1 in
     subst (λ (m : ℕ). m ≤ limit) same.0 (ltb-false limit a.0.0 g.0)
@@ -83,5 +83,5 @@ count_few w limit bytes n rest e =
 pub count_again : (w : Width) (bound : ℕ) (wide : IsWide w bound) (limit n : ℕ) (rest : List ℕ) → n < bound → n ≤ limit → count_at w limit (to_be_bytes w n ++ rest) ≡ Some (n, rest)
 unfolding count_at
 count_again w bound wide limit n rest lt few =
-    bind_again (number_at w (to_be_bytes w n ++ rest)) (within limit) (n, rest) (n, rest) (number_again w bound wide n rest lt)
+    bind_again (big_endian_at w (to_be_bytes w n ++ rest)) (within limit) (n, rest) (n, rest) (number_again w bound wide n rest lt)
     (if_false_again (ltb limit n) (Some (n, rest)) (n, rest) (le-ltb _ _ few) refl)

@@ -2,7 +2,7 @@
 use Rattle.std.proofs.Common.{◌≡◌, ◌∙◌, ℕ, Bool, eqb, cond, List, length, Option, None, Some, refl, arith}
 use Rattle.std.specs.Int.{w16, w32}
 use Rattle.blob_commit.specs.Proofs.{RowParts, CommitParts}
-use Rattle.frame_fields.specs.Fields.{◌>>=◌, number_at, string_at, read_items, read_rest}
+use Rattle.frame_fields.specs.Fields.{◌>>=◌, big_endian_at, string_at, read_items, read_rest}
 use Rattle.frame_payloads.specs.kinds.Commit.{most_rows, IsRowSent, IsCommitSent, is_long_row, is_long_commit, row_bytes, commit_payload, row_at, rows_at, commit_at}
 use Rattle.frame_payloads.proofs.Fields.Many.{made, by_rest}
 use Rattle.frame_payloads.proofs.Fields.Headed.{ended}
@@ -16,8 +16,8 @@ abbrev pub commit : ℕ → ℕ → ℕ → List ℕ → List RowParts → Commi
 commit k start count commitment rows = record { k = k; start = start; count = count; commitment = commitment; rows = rows }
 
 -- behind the front, the rows are read next
-pub front_is : (payload : List ℕ) (k start count : ℕ) (commitment a b d rows : List ℕ) → number_at w16 payload ≡ Some (k, a) → number_at w32 a ≡ Some (start, b)
-    → number_at w32 b ≡ Some (count, d) → string_at 32 d ≡ Some (commitment, rows) → commit_at payload ≡ (rows_at rows >>= ended (commit k start count commitment))
+pub front_is : (payload : List ℕ) (k start count : ℕ) (commitment a b d rows : List ℕ) → big_endian_at w16 payload ≡ Some (k, a) → big_endian_at w32 a ≡ Some (start, b)
+    → big_endian_at w32 b ≡ Some (count, d) → string_at 32 d ≡ Some (commitment, rows) → commit_at payload ≡ (rows_at rows >>= ended (commit k start count commitment))
 unfolding commit_at
 front_is payload k start count commitment a b d rows e0 e1 e2 e3 = rw (e0, e1, e2, e3) refl
 

@@ -10,7 +10,7 @@ use Rattle.frame_fields.specs.Fields.{most_nodes}
 use Rattle.frame_payloads.specs.Payloads.{max_payload, IsSize}
 use Rattle.frame_payloads.specs.codec.Texts.{path_bytes, list_bytes, digest_list}
 use Rattle.frame_payloads.specs.kinds.Message.{message_payload}
-use Rattle.frame_payloads.specs.kinds.Commit.{most_rows, most_subtrees, IsRowSent, IsCommitSent, is_long_row, is_long_commit, hash_bytes, row_bytes, commit_payload}
+use Rattle.frame_payloads.specs.kinds.Commit.{most_rows, most_row_subtrees, IsRowSent, IsCommitSent, is_long_row, is_long_commit, hash_bytes, row_bytes, commit_payload}
 use Rattle.frame_payloads.specs.kinds.Rooted.{rooted_payload}
 use Rattle.frame_payloads.proofs.Fields.Digests.{length-digest_bytes}
 use Rattle.frame_payloads.proofs.Fields.Hashes.{length-hash_bytes}
@@ -31,12 +31,12 @@ length-row row is =
 
 -- the most bytes of a row
 abbrev most_row : ℕ
-most_row = 94 + hash_size * most_hashes + digest_size * most_subtrees + digest_size * most_nodes
+most_row = 94 + hash_size * most_hashes + digest_size * most_row_subtrees + digest_size * most_nodes
 
 -- one that can be written has no more
 row_few : (row : RowParts) → IsShortRow row → length (row_bytes row) ≤ most_row
 row_few row is =
-    let few : length row.subtrees ≤ most_subtrees = ltb-false most_subtrees (length row.subtrees) is.1 in
+    let few : length row.subtrees ≤ most_row_subtrees = ltb-false most_row_subtrees (length row.subtrees) is.1 in
     omega (arith, few, is.0.few_hashes, is.0.few_nodes, length-row row is.0.is)
 
 -- a commitment proof that isn't too long has a payload within its limit
@@ -53,12 +53,12 @@ commit_few proof is short =
     )
 
 -- rows of few subtrees aren't too long
-rows_short : (rows : List RowParts) → AllByRecursion (λ row. length row.subtrees ≤ most_subtrees) rows → list_any is_long_row rows ≡ false
+rows_short : (rows : List RowParts) → AllByRecursion (λ row. length row.subtrees ≤ most_row_subtrees) rows → list_any is_long_row rows ≡ false
 rows_short [] all = refl
 rows_short (row ∷ rows) all = or_from (is_long_row row) (list_any is_long_row rows) (le-ltb _ _ all.0) (rows_short rows all.1)
 
 -- nor is a commitment proof that has few such rows
-pub commit_short : (proof : CommitParts) → length proof.rows ≤ most_rows → AllByRecursion (λ row. length row.subtrees ≤ most_subtrees) proof.rows → is_long_commit proof ≡ false
+pub commit_short : (proof : CommitParts) → length proof.rows ≤ most_rows → AllByRecursion (λ row. length row.subtrees ≤ most_row_subtrees) proof.rows → is_long_commit proof ≡ false
 commit_short proof few all = or_from (ltb most_rows (length proof.rows)) (list_any is_long_row proof.rows) (le-ltb _ _ few) (rows_short proof.rows all)
 
 -- ---- root proofs

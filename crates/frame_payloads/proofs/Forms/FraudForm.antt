@@ -9,7 +9,7 @@ use Rattle.namespace_id.specs.Bytes.{AreBytes}
 use Rattle.axis_roots.specs.Sets.{is_along}
 use Rattle.axis_roots.specs.Claims.{ClaimParts, IsClaim}
 use Rattle.frame_payloads.specs.codec.Texts.{list_bytes, digest_list}
-use Rattle.frame_payloads.specs.kinds.Fraud.{most_cells, most_set_nodes, is_placed, fits_form, is_unwritten, cell_payload, plain_payload, set_payload, payload_by, fraud_payload, accused_at, claim_cells_at, plain_at, with_set_at, either, fraud_at}
+use Rattle.frame_payloads.specs.kinds.Fraud.{most_cells, most_set_nodes, is_cell_placed, fits_form, is_unwritten, cell_payload, plain_payload, set_payload, payload_by, fraud_payload, accused_at, claim_cells_at, plain_at, with_set_at, either, fraud_at}
 use Rattle.frame_payloads.proofs.Fields.Headed.{no_head}
 use Rattle.frame_payloads.proofs.Forms.AccusedForm.{text, accused_other}
 use Rattle.frame_payloads.proofs.Forms.PlainForm.{IsPlain, plain_is, plain_takes, plain_again}
@@ -44,14 +44,14 @@ written_from claim fits few =
 
 -- what cells that fit a set tell
 pub record Fits (claim : ClaimParts) (nodes : List Digest) : Type 0 where
-  pub placed : list_all (is_placed claim) claim.cells ≡ true
+  pub placed : list_all (is_cell_placed claim) claim.cells ≡ true
   pub some : list_any (is_along claim.axis) claim.cells ≡ true
   pub few : length nodes ≤ most_set_nodes
 
 -- cells that fit a set are placed, the set shows one, and it has few nodes
 pub fits_parts : (claim : ClaimParts) (nodes : List Digest) → fits_form claim (Some nodes) ≡ true → Fits claim nodes
 fits_parts claim nodes e =
-    let placed : Bool = list_all (is_placed claim) claim.cells in
+    let placed : Bool = list_all (is_cell_placed claim) claim.cells in
     let some : Bool = list_any (is_along claim.axis) claim.cells in
     let last = and_parts (placed && some) (not (nat_lt most_set_nodes (length nodes))) e in
     let both = and_parts placed some last.0 in
@@ -60,7 +60,7 @@ fits_parts claim nodes e =
 -- and such cells fit it
 pub fits_from : (claim : ClaimParts) (nodes : List Digest) → Fits claim nodes → fits_form claim (Some nodes) ≡ true
 fits_from claim nodes h =
-    let placed : Bool = list_all (is_placed claim) claim.cells in
+    let placed : Bool = list_all (is_cell_placed claim) claim.cells in
     let some : Bool = list_any (is_along claim.axis) claim.cells in
     and_from (placed && some) (not (nat_lt most_set_nodes (length nodes))) (and_from placed some h.placed h.some) (not_from_false (nat_lt most_set_nodes (length nodes)) (le-ltb most_set_nodes (length nodes) h.few))
 

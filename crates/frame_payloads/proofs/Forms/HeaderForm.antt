@@ -11,7 +11,7 @@ use Rattle.namespace_id.specs.Sizes.{greatest_width}
 use Rattle.namespace_id.proofs.StringLemmas.{AreBytes-take, AreBytes-drop}
 use Rattle.namespace_id.proofs.WidthLemmas.{is_width-le}
 use Rattle.data_header.specs.Headers.{Roots, IsHeader}
-use Rattle.frame_fields.specs.Fields.{number_at, digests_of}
+use Rattle.frame_fields.specs.Fields.{big_endian_at, digests_of}
 use Rattle.frame_payloads.specs.codec.Texts.{digest_bytes}
 use Rattle.frame_payloads.specs.kinds.Header.{header_payload, header_at}
 use Rattle.frame_payloads.proofs.Fields.Readers.{bind_some, bind_again, if_false, if_false_again, if_true_again}
@@ -54,7 +54,7 @@ is_header k bytes width fits len =
 pub header_takes : (payload : List ℕ) (h : Roots) → AreBytes payload → header_at payload ≡ Some h → IsHeader h × (payload ≡ header_payload h)
 unfolding header_at
 header_takes payload h fits e =
-    let a = bind_some (number_at w16 payload) after_width h e in
+    let a = bind_some (big_endian_at w16 payload) after_width h e in
     let t = number_takes w16 (2 ^ 16) wide16 payload a.0.0 a.0.1 fits a.1 in
     let b = if_false (not (is_width a.0.0)) (cond (eqb (length a.0.1) (360 * a.0.0)) (Some (roots_in a.0.0 a.0.1)) None) h a.2 in
     let g = cond_some (eqb (length a.0.1) (360 * a.0.0)) (roots_in a.0.0 a.0.1) h b.1 in
@@ -86,7 +86,7 @@ header_again h is =
     let rows : digests_of (2 * h.k) (take (180 * h.k) (body h)) ≡ h.rows = digests_of-spelled (2 * h.k) (take (180 * h.k) (body h)) h.rows is.rows is.roots.rows front in
     let cols : digests_of (2 * h.k) (drop (180 * h.k) (body h)) ≡ h.cols = digests_of-spelled (2 * h.k) (drop (180 * h.k) (body h)) h.cols is.cols is.roots.cols behind in
     let same : roots_in h.k (body h) ≡ h = ap₂ (λ (r c : List Digest). roots h.k r c) rows cols in
-    bind_again (number_at w16 (header_payload h)) after_width (h.k, body h) h
+    bind_again (big_endian_at w16 (header_payload h)) after_width (h.k, body h) h
     (number_again w16 (2 ^ 16) wide16 h.k (body h) (omega (arith, few)))
     (if_false_again (not (is_width h.k)) (cond (eqb (length (body h)) (360 * h.k)) (Some (roots_in h.k (body h))) None) h (not_from_true (is_width h.k) is.roots.width)
     (if_true_again (eqb (length (body h)) (360 * h.k)) (Some (roots_in h.k (body h))) h

@@ -3,7 +3,7 @@ use Rattle.std.proofs.Common.{◌≡◌, ◌++◌, false, ℕ, List, length-appe
 use Rattle.blob_commit.specs.Proofs.{RowParts}
 use Rattle.frame_fields.specs.Fields.{most_nodes}
 use Rattle.frame_payloads.specs.codec.Texts.{path_bytes, digest_list}
-use Rattle.frame_payloads.specs.kinds.Commit.{most_subtrees, IsRowSent, is_long_row, hash_bytes, row_bytes, row_at}
+use Rattle.frame_payloads.specs.kinds.Commit.{most_row_subtrees, IsRowSent, is_long_row, hash_bytes, row_bytes, row_at}
 use Rattle.frame_payloads.proofs.Fields.Fields.{AreMaps, ◌▸◌, made_field}
 use Rattle.frame_payloads.proofs.Fields.Bases.{digest90, hashes, digests16, path}
 use Rattle.frame_payloads.proofs.Fields.Texts.{IsField}
@@ -13,7 +13,7 @@ abbrev pub IsShortRow : RowParts → Type 0
 IsShortRow row = IsRowSent row × (is_long_row row ≡ false)
 
 -- a row is a root, hashes, subtrees, and nodes
-maps : AreMaps {R = RowParts × List ℕ} (digest90 ▸ hashes ▸ digests16 most_subtrees (omega arith) ▸ path most_nodes)
+maps : AreMaps {R = RowParts × List ℕ} (digest90 ▸ hashes ▸ digests16 most_row_subtrees (omega arith) ▸ path most_nodes)
     (λ x. record { root = x.0.0.0; up = x.0.0.1; subtrees = x.0.1; nodes = x.1 }) (λ r. (((r.root, r.up), r.subtrees), r.nodes)) IsShortRow
 maps = record {
   there = λ x is. (

@@ -9,7 +9,7 @@ use Rattle.namespace_id.specs.Shares.{AreShares, share_of}
 use Rattle.namespace_id.specs.Cells.{is_width}
 use Rattle.namespace_id.specs.Sizes.{greatest_width}
 use Rattle.square_layout.specs.Blocks.{SquareShares, IsSquare}
-use Rattle.frame_fields.specs.Fields.{number_at, shares_of}
+use Rattle.frame_fields.specs.Fields.{big_endian_at, shares_of}
 use Rattle.frame_payloads.specs.codec.Texts.{share_bytes}
 use Rattle.frame_payloads.specs.kinds.Square.{square_payload, square_at}
 use Rattle.frame_payloads.proofs.Fields.Readers.{bind_some, bind_again, if_false, if_false_again, if_true_again}
@@ -49,7 +49,7 @@ is_square k bytes width fits len =
 pub square_takes : (payload : List ℕ) (s : SquareShares) → AreBytes payload → square_at payload ≡ Some s → (IsSquare s × AreShares s.shares) × (payload ≡ square_payload s)
 unfolding square_at
 square_takes payload s fits e =
-    let a = bind_some (number_at w16 payload) after_width s e in
+    let a = bind_some (big_endian_at w16 payload) after_width s e in
     let t = number_takes w16 (2 ^ 16) wide16 payload a.0.0 a.0.1 fits a.1 in
     let b = if_false (not (is_width a.0.0)) (cond (eqb (length a.0.1) (512 * (a.0.0 * a.0.0))) (Some (square_in a.0.0 a.0.1)) None) s a.2 in
     let g = cond_some (eqb (length a.0.1) (512 * (a.0.0 * a.0.0))) (square_in a.0.0 a.0.1) s b.1 in
@@ -69,7 +69,7 @@ square_again s is shares =
     let bytes : List ℕ = share_bytes s.shares in
     let few : s.k ≤ greatest_width = is_width-le s.k is.width in
     let same : square_in s.k bytes ≡ s = ap (λ (l : List Share). square s.k l) (split_into-spelled share_of text texts 512 (s.k * s.k) bytes s.shares shares is.count refl) in
-    bind_again (number_at w16 (square_payload s)) after_width (s.k, bytes) s
+    bind_again (big_endian_at w16 (square_payload s)) after_width (s.k, bytes) s
     (number_again w16 (2 ^ 16) wide16 s.k bytes (omega (arith, few)))
     (if_false_again (not (is_width s.k)) (cond (eqb (length bytes) (512 * (s.k * s.k))) (Some (square_in s.k bytes)) None) s (not_from_true (is_width s.k) is.width)
     (if_true_again (eqb (length bytes) (512 * (s.k * s.k))) (Some (square_in s.k bytes)) s

@@ -5,7 +5,7 @@ use Rattle.std.specs.Int.{w16, to_be_bytes}
 use Rattle.namespace_id.specs.Sizes.{namespace_size}
 use Rattle.square_layout.specs.Blocks.{BlockParts}
 use Rattle.share_split.specs.Blobs.{NamedBytes, signer_size, version_of, signer_bytes}
-use Rattle.frame_fields.specs.Fields.{◌>>=◌, number_at, byte_at, string_at}
+use Rattle.frame_fields.specs.Fields.{◌>>=◌, big_endian_at, byte_at, string_at}
 use Rattle.frame_payloads.specs.kinds.Units.{unit_bytes, unit_at, counted_bytes, counted_at}
 
 -- a blob: its namespace, its share version, its signer where that is 1, and its bytes
@@ -55,7 +55,7 @@ asked_width k = if k == 0 then None else Some k
 -- a width or 0, and three lists: units, units of payments, blobs
 unfoldable pub block_at : List ℕ → Option BlockParts
 block_at bytes = do
-  width ← number_at w16 bytes
+  width ← big_endian_at w16 bytes
   units ← counted_at unit_at width.1
   pay_units ← counted_at unit_at units.1
   blobs ← counted_at blob_at pay_units.1

@@ -6,7 +6,7 @@ use Rattle.namespace_id.specs.Sizes.{hash_size, digest_size, greatest_width}
 use Rattle.namespace_id.specs.Bytes.{IsString}
 use Rattle.data_header.specs.Paths.{most_hashes}
 use Rattle.blob_commit.specs.Proofs.{RowParts, CommitParts, IsRow}
-use Rattle.frame_fields.specs.Fields.{◌>>=◌, most_nodes, string_at, number_at, digest, digest_list_at, path_at, hashes_at, list_at}
+use Rattle.frame_fields.specs.Fields.{◌>>=◌, most_nodes, string_at, big_endian_at, digest, digest_list_at, path_at, hashes_at, list_at}
 use Rattle.frame_payloads.specs.codec.Texts.{path_bytes, list_bytes, digest_list}
 
 -- the most rows of a commitment proof, as many as the greatest square has
@@ -14,8 +14,8 @@ abbrev pub most_rows : ℕ
 most_rows = greatest_width
 
 -- the most subtrees in a row, as many as it has original shares in the greatest square
-abbrev pub most_subtrees : ℕ
-most_subtrees = greatest_width
+abbrev pub most_row_subtrees : ℕ
+most_row_subtrees = greatest_width
 
 -- ---- the values that there are
 
@@ -53,7 +53,7 @@ commit_payload proof =
 
 -- whether a row has more subtrees than can be written
 abbrev pub is_long_row : RowParts → Bool
-is_long_row row = nat_lt most_subtrees (length row.subtrees)
+is_long_row row = nat_lt most_row_subtrees (length row.subtrees)
 
 -- whether a commitment proof has more rows than can be written, or more subtrees in one of them
 abbrev pub is_long_commit : CommitParts → Bool
@@ -66,7 +66,7 @@ unfoldable pub row_at : List ℕ → Option (RowParts × List ℕ)
 row_at bytes = do
   root ← string_at digest_size bytes
   up ← hashes_at root.1
-  subtrees ← digest_list_at most_subtrees up.1
+  subtrees ← digest_list_at most_row_subtrees up.1
   nodes ← path_at most_nodes subtrees.1
   Some (record { root = digest root.0; up = up.0; subtrees = subtrees.0; nodes = nodes.0 }, nodes.1)
 
@@ -77,9 +77,9 @@ rows_at bytes = list_at w16 most_rows row_at bytes
 -- a commitment proof that is all of the bytes
 unfoldable pub commit_at : List ℕ → Option CommitParts
 commit_at bytes = do
-  k ← number_at w16 bytes
-  start ← number_at w32 k.1
-  count ← number_at w32 start.1
+  k ← big_endian_at w16 bytes
+  start ← big_endian_at w32 k.1
+  count ← big_endian_at w32 start.1
   commitment ← string_at hash_size count.1
   rows ← rows_at commitment.1
   if length rows.1 == 0

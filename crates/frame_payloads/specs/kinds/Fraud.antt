@@ -13,7 +13,7 @@ use Rattle.axis_roots.specs.Lines.{cell_on}
 use Rattle.axis_roots.specs.Sets.{is_one_axis, is_along}
 use Rattle.axis_roots.specs.Claims.{ClaimParts, is_on}
 use Rattle.frame_payloads.specs.declared.kinds.fraud_set.SetFields.{SetFields}
-use Rattle.frame_fields.specs.Fields.{◌>>=◌, number_at, byte_at, string_at, axis_at, path_at, digest_list_at, digests_of, list_at, read_items}
+use Rattle.frame_fields.specs.Fields.{◌>>=◌, big_endian_at, byte_at, string_at, axis_at, path_at, digest_list_at, digests_of, list_at, read_items}
 use Rattle.frame_payloads.specs.codec.Texts.{axis_byte, path_bytes, list_bytes, digest_list}
 use Rattle.frame_fields.specs.Messages.{message_front}
 use Rattle.frame_payloads.specs.kinds.Message.{message_payload}
@@ -45,13 +45,13 @@ plain_payload claim =
     plain_form ∷ accused_bytes claim.axis claim.index ++ list_bytes w16 message_payload claim.cells
 
 -- what tells whether the set shows a cell: 1 where it does, 0 where the cell has a path along the crossing axis
-abbrev pub tag_of : Axis → Message → ℕ
-tag_of axis m = if is_along axis m then 1 else 0
+abbrev pub cell_tag : Axis → Message → ℕ
+cell_tag axis m = if is_along axis m then 1 else 0
 
 -- a cell of a claim with a set: its position on the accused axis, its tag, its share, and its path where it has one
 abbrev pub cell_payload : Axis → Message → List ℕ
 cell_payload axis m =
-    to_be_bytes w16 (position axis m.cell) ++ tag_of axis m ∷ m.share.0
+    to_be_bytes w16 (position axis m.cell) ++ cell_tag axis m ∷ m.share.0
     ++ (if is_along axis m then [] else path_bytes m.path)
 
 -- the axis that is accused, its cells behind their count, and the nodes of the set behind theirs
@@ -72,15 +72,15 @@ fraud_payload claim = payload_by claim claim.set
 -- ---- what can be written
 
 -- whether a cell of a claim with a set is on the accused axis, and has no path where the set shows it
-abbrev pub is_placed : ClaimParts → Message → Bool
-is_placed claim m = is_on claim m && (if is_along claim.axis m then length m.path == 0 else true)
+abbrev pub is_cell_placed : ClaimParts → Message → Bool
+is_cell_placed claim m = is_on claim m && (if is_along claim.axis m then length m.path == 0 else true)
 
 -- whether the cells of a claim can be written beside its set, if it has one: each is placed, the set shows one at
 -- least, and has no more nodes than can be counted
 abbrev pub fits_form : ClaimParts → Option (List Digest) → Bool
 fits_form claim None = true
 fits_form claim (Some nodes) =
-    list_all (is_placed claim) claim.cells && list_any (is_along claim.axis) claim.cells
+    list_all (is_cell_placed claim) claim.cells && list_any (is_along claim.axis) claim.cells
     && not (nat_lt most_set_nodes (length nodes))
 
 -- whether a claim has no spelling: its cells don't fit its set, or it has more cells than can be written
@@ -94,7 +94,7 @@ unfoldable pub accused_at : ℕ → List ℕ → Option ((Axis × ℕ) × List �
 accused_at wanted bytes = do
   form ← byte_at bytes
   axis ← if form.0 == wanted then axis_at form.1 else None
-  index ← number_at w16 axis.1
+  index ← big_endian_at w16 axis.1
   Some ((axis.0, index.0), index.1)
 
 -- samples of cells behind their count
@@ -125,7 +125,7 @@ cell_path_at false bytes = path_at most_depth bytes
 -- a cell of a claim with a set, on the axis that is accused
 unfoldable pub set_cell_at : Axis → ℕ → List ℕ → Option (Message × List ℕ)
 set_cell_at axis index bytes = do
-  pos ← number_at w16 bytes
+  pos ← big_endian_at w16 bytes
   tag ← tag_at axis pos.1
   share ← string_at share_size tag.1
   path ← cell_path_at (is_one_axis axis tag.0) share.1

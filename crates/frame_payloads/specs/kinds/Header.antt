@@ -3,7 +3,7 @@ use Rattle.std.specs.Prelude.{ℕ, ◌*◌, List, length, take, drop, Option, So
 use Rattle.std.specs.Int.{w16, to_be_bytes}
 use Rattle.namespace_id.specs.Cells.{is_width}
 use Rattle.data_header.specs.Headers.{Roots}
-use Rattle.frame_fields.specs.Fields.{◌>>=◌, number_at, digests_of}
+use Rattle.frame_fields.specs.Fields.{◌>>=◌, big_endian_at, digests_of}
 use Rattle.frame_payloads.specs.codec.Texts.{digest_bytes}
 
 -- a width, the roots of the rows, the roots of the columns
@@ -21,6 +21,6 @@ roots_of k bytes = record {
 -- a width k, and the roots of a header of this width
 unfoldable pub header_at : List ℕ → Option Roots
 header_at bytes = do
-  k ← number_at w16 bytes
+  k ← big_endian_at w16 bytes
   if not (is_width k.0) then None else
       if length k.1 == 360 * k.0 then Some (roots_of k.0 k.1) else None

@@ -4,7 +4,7 @@ use Rattle.std.specs.Int.{w16, w32, to_be_bytes}
 use Rattle.namespace_id.specs.declared.cells.Cell.{Cell}
 use Rattle.std.specs.List.{flat_map, list_all}
 use Rattle.namespace_id.specs.Cells.{are_cells, CellList, is_in_square, is_before}
-use Rattle.frame_fields.specs.Fields.{◌>>=◌, number_at, cells_of}
+use Rattle.frame_fields.specs.Fields.{◌>>=◌, big_endian_at, cells_of}
 use Rattle.namespace_id.specs.Lists.{holds_along}
 use Rattle.frame_payloads.specs.codec.Texts.{cell_bytes}
 
@@ -16,8 +16,8 @@ missing_payload cells =
 -- a width k, a count from 1 on, so many cells of its square, strictly ascending in row-major order
 unfoldable pub missing_at : List ℕ → Option CellList
 missing_at bytes = do
-  k ← number_at w16 bytes
-  count ← number_at w32 k.1
+  k ← big_endian_at w16 bytes
+  count ← big_endian_at w32 k.1
   if (count.0 == 0) || not (length count.1 == 4 * count.0) then None else
       if are_cells k.0 (cells_of count.0 count.1)
       then Some (record { k = k.0; list = cells_of count.0 count.1 })

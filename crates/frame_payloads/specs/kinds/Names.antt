@@ -14,7 +14,7 @@ use Rattle.frame_payloads.specs.declared.kinds.names.FoundFields.TheVariants as 
 use Rattle.frame_payloads.specs.declared.shown.FoundPlace.{FoundPlace}
 use Rattle.frame_payloads.specs.declared.shown.FoundPlace.TheVariants as place
 use Rattle.frame_payloads.specs.declared.shown.EntryPlace.{EntryPlace}
-use Rattle.frame_fields.specs.Fields.{◌>>=◌, number_at, byte_at, string_at, count_at, list_at, path_at, shares_at, shares_of, digests_of, digest, most_nodes}
+use Rattle.frame_fields.specs.Fields.{◌>>=◌, big_endian_at, byte_at, string_at, count_at, list_at, path_at, shares_at, shares_of, digests_of, digest, most_nodes}
 use Rattle.frame_payloads.specs.codec.Texts.{path_bytes, list_bytes}
 
 -- ---- limits
@@ -72,7 +72,7 @@ share_list_at bytes = do
 -- a range behind its tag
 unfoldable pub range_at : List ℕ → Option (Found × List ℕ)
 range_at bytes = do
-  start ← number_at w16 bytes
+  start ← big_endian_at w16 bytes
   shares ← share_list_at start.1
   nodes ← path_at most_nodes shares.1
   Some (Range start.0 shares.0 nodes.0, nodes.1)
@@ -80,7 +80,7 @@ range_at bytes = do
 -- an absence behind its tag
 unfoldable pub absence_at : List ℕ → Option (Found × List ℕ)
 absence_at bytes = do
-  pos ← number_at w16 bytes
+  pos ← big_endian_at w16 bytes
   leaf ← string_at digest_size pos.1
   nodes ← path_at most_nodes leaf.1
   Some (Absence pos.0 (digest leaf.0) nodes.0, nodes.1)
@@ -94,7 +94,7 @@ found_at bytes = do
 -- a row, and what is found in it
 unfoldable pub entry_at : List ℕ → Option (NsEntry × List ℕ)
 entry_at bytes = do
-  row ← number_at w16 bytes
+  row ← big_endian_at w16 bytes
   found ← found_at row.1
   Some (record { row = row.0; found = found.0 }, found.1)
 
@@ -147,6 +147,6 @@ HasFewNodes (fields.Range start count shares node_count nodes) = node_count ≤ 
 HasFewNodes (fields.Absence pos leaf node_count nodes) = node_count ≤ most_nodes
 
 -- the bytes of the nodes are all there
-abbrev pub HasNodes : FoundFields → Type 0
-HasNodes (fields.Range start count shares node_count nodes) = length nodes.now ≡ digest_size * node_count
-HasNodes (fields.Absence pos leaf node_count nodes) = length nodes.now ≡ digest_size * node_count
+abbrev pub HasNodeBytes : FoundFields → Type 0
+HasNodeBytes (fields.Range start count shares node_count nodes) = length nodes.now ≡ digest_size * node_count
+HasNodeBytes (fields.Absence pos leaf node_count nodes) = length nodes.now ≡ digest_size * node_count

@@ -1,7 +1,7 @@
 -- The payload of a refusal (docs/FORMATS.md, "Payloads").
 use Rattle.std.specs.Prelude.{ℕ, ◌<◌, ◌^◌, List, ◌∷◌, length, Option, Some, None, if◌then◌else◌, ◌==◌}
 use Rattle.std.specs.Int.{w64, to_be_bytes}
-use Rattle.frame_fields.specs.Fields.{◌>>=◌, byte_at, number_at}
+use Rattle.frame_fields.specs.Fields.{◌>>=◌, byte_at, big_endian_at}
 use Rattle.frame_payloads.specs.declared.refusals.Reason.{Reason}
 use Rattle.frame_payloads.specs.declared.refusals.Reason.TheVariants.{NoSuchFrame, FirstCheck, SecondCheck, ThirdCheck, FourthCheck, NoAnswer}
 use Rattle.frame_payloads.specs.declared.refusals.Refusal.{Refusal}
@@ -44,5 +44,5 @@ reason_at bytes = do
 unfoldable pub refusal_at : List ℕ → Option Refusal
 refusal_at bytes = do
   reason ← reason_at bytes
-  number ← number_at w64 reason.1
+  number ← big_endian_at w64 reason.1
   if length number.1 == 0 then Some (record { reason = reason.0; number = number.0 }) else None

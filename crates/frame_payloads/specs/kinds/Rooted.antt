@@ -4,7 +4,7 @@ use Rattle.std.specs.Int.{w16, to_be_bytes}
 use Rattle.namespace_id.specs.Sizes.{digest_size}
 use Rattle.data_header.specs.Paths.{most_hashes}
 use Rattle.blob_commit.specs.Proofs.{RootedParts, IsRooted}
-use Rattle.frame_fields.specs.Fields.{◌>>=◌, string_at, number_at, digest, hashes_at}
+use Rattle.frame_fields.specs.Fields.{◌>>=◌, string_at, big_endian_at, digest, hashes_at}
 use Rattle.frame_fields.specs.Messages.{message_front}
 use Rattle.frame_payloads.specs.kinds.Message.{message_payload}
 use Rattle.frame_payloads.specs.kinds.Commit.{hash_bytes}
@@ -23,7 +23,7 @@ rooted_payload proof =
 -- a root proof that is all of the bytes
 unfoldable pub rooted_at : List ℕ → Option RootedParts
 rooted_at bytes = do
-  k ← number_at w16 bytes
+  k ← big_endian_at w16 bytes
   message ← message_front k.1
   root ← string_at digest_size message.1
   up ← hashes_at root.1

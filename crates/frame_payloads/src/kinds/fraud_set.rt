@@ -6,7 +6,7 @@ ghost use Rattle.namespace_id.specs.Answers.{Gives};
 ghost use Rattle.axis_roots.specs.Sets.{is_one_axis, is_along};
 ghost use Rattle.frame_fields.specs.Fields.{many_at, read_items, digests_of};
 ghost use Rattle.frame_payloads.specs.Payloads.{GivesUnlessFull, Puts};
-ghost use Rattle.frame_payloads.specs.kinds.Fraud.{cell_payload, set_payload, is_placed, fits_form, tag_at, cell_path_at, set_cell_at, set_cells_at, with_set_at, passed, set_seen, most_set_nodes};
+ghost use Rattle.frame_payloads.specs.kinds.Fraud.{cell_payload, set_payload, is_cell_placed, fits_form, tag_at, cell_path_at, set_cell_at, set_cells_at, with_set_at, passed, set_seen, most_set_nodes};
 
 use crate::codec::appending::put_path;
 use crate::codec::outs::{Full, Out};
@@ -204,7 +204,7 @@ pub(crate) fn with_set(alloc: Global, payload: &[u8]) -> Result<Option<FraudClai
 
 /// Whether a cell of a claim with a set is on the accused axis, and has no path where the set shows it.
 fn is_placed(claim: &FraudClaim, message: &Message) -> bool
-    ensures { result ≡ is_placed claim.now message.now }
+    ensures { result ≡ is_cell_placed claim.now message.now }
 {
     index(claim.axis, message.cell) == claim.index
         && (!is_along(claim.axis, message) || message.path.nodes().is_empty())
@@ -212,7 +212,7 @@ fn is_placed(claim: &FraudClaim, message: &Message) -> bool
 
 /// Whether all cells of a claim with a set are placed.
 fn are_placed(claim: &FraudClaim) -> bool
-    ensures { result ≡ list_all (is_placed claim.now) claim.now.cells }
+    ensures { result ≡ list_all (is_cell_placed claim.now) claim.now.cells }
 {
     for cell in &claim.cells {
         if !is_placed(claim, cell) {

@@ -7,7 +7,7 @@ ghost use Rattle.namespace_id.specs.Answers.{Gives, HasRoom};
 ghost use Rattle.axis_roots.specs.declared.answers.Found.TheVariants.{Range, Absence};
 ghost use Rattle.frame_fields.specs.Fields.{most_nodes, read_items, shares_of};
 ghost use Rattle.frame_payloads.specs.Payloads.{GivesUnlessFull, IsSize, Puts};
-ghost use Rattle.frame_payloads.specs.kinds.Names.{most_shares_shown, is_long_found, is_long_entry, is_long_answer, entry_bytes, names_payload, share_list_at, range_at, absence_at, found_at, entry_at, entries_at, names_at, found_place, entry_place, answer_places, place_at, found_seen, HasShares, HasFewNodes, HasNodes};
+ghost use Rattle.frame_payloads.specs.kinds.Names.{most_shares_shown, is_long_found, is_long_entry, is_long_answer, entry_bytes, names_payload, share_list_at, range_at, absence_at, found_at, entry_at, entries_at, names_at, found_place, entry_place, answer_places, place_at, found_seen, HasShares, HasFewNodes, HasNodeBytes};
 
 use crate::codec::appending::put_path;
 use crate::codec::items::{Item, after_list16, list16};
@@ -73,7 +73,7 @@ fn range_at(bytes: &[u8]) -> Option<(FoundFields<'_>, &[u8])>
     ensures value { Gives (λ x. (found_seen x.0, x.1.now)) result (range_at bytes.now) }
     ensures shares { IfSome result (λ x. HasShares x.0) }
     ensures few { IfSome result (λ x. HasFewNodes x.0) }
-    ensures nodes { IfSome result (λ x. HasNodes x.0) }
+    ensures nodes { IfSome result (λ x. HasNodeBytes x.0) }
 {
     let Some((start, rest)) = u16_at(bytes) else {
         return None;
@@ -100,7 +100,7 @@ fn absence_at(bytes: &[u8]) -> Option<(FoundFields<'_>, &[u8])>
     ensures value { Gives (λ x. (found_seen x.0, x.1.now)) result (absence_at bytes.now) }
     ensures shares { IfSome result (λ x. HasShares x.0) }
     ensures few { IfSome result (λ x. HasFewNodes x.0) }
-    ensures nodes { IfSome result (λ x. HasNodes x.0) }
+    ensures nodes { IfSome result (λ x. HasNodeBytes x.0) }
 {
     let Some((pos, rest)) = u16_at(bytes) else {
         return None;
@@ -126,7 +126,7 @@ fn found_at(bytes: &[u8]) -> Option<(FoundFields<'_>, &[u8])>
     ensures value { Gives (λ x. (found_seen x.0, x.1.now)) result (found_at bytes.now) }
     ensures shares { IfSome result (λ x. HasShares x.0) }
     ensures few { IfSome result (λ x. HasFewNodes x.0) }
-    ensures nodes { IfSome result (λ x. HasNodes x.0) }
+    ensures nodes { IfSome result (λ x. HasNodeBytes x.0) }
 {
     let (tag, rest) = u8_at(bytes)?;
     match tag {
@@ -143,7 +143,7 @@ fn entry_at(bytes: &[u8]) -> Option<(u16, FoundFields<'_>, &[u8])>
         result (entry_at bytes.now) }
     ensures shares { IfSome result (λ x. HasShares x.1) }
     ensures few { IfSome result (λ x. HasFewNodes x.1) }
-    ensures nodes { IfSome result (λ x. HasNodes x.1) }
+    ensures nodes { IfSome result (λ x. HasNodeBytes x.1) }
 {
     let Some((row, rest)) = u16_at(bytes) else {
         return None;
@@ -180,7 +180,7 @@ pub fn is_names(payload: &[u8]) -> bool
 fn found_of(alloc: Global, found: FoundFields<'_>) -> Result<Found, AllocError>
     requires shares { HasShares found }
     requires few { HasFewNodes found }
-    requires nodes { HasNodes found }
+    requires nodes { HasNodeBytes found }
     ensures { IfOk result (λ made. made ≡ found_seen found.entry) }
 {
     match found {

@@ -3,7 +3,7 @@
 ghost use Rattle.std.specs.Prelude.{◌≡◌, ◌≤◌, length, ◌++◌, vec_capacity};
 ghost use Rattle.std.specs.Int.{w64};
 ghost use Rattle.namespace_id.specs.Answers.{Gives, HasRoom};
-ghost use Rattle.frame_fields.specs.Fields.{number_at};
+ghost use Rattle.frame_fields.specs.Fields.{big_endian_at};
 ghost use Rattle.frame_payloads.specs.kinds.Refusal.{reason_of, refusal_payload, reason_at, refusal_at};
 
 use crate::refusals::{Reason, Refusal};
@@ -40,7 +40,7 @@ fn reason_at(bytes: &[u8]) -> Option<(Reason, &[u8])>
 
 /// A number of eight bytes, the highest first, and the bytes after it.
 fn u64_at(bytes: &[u8]) -> Option<(u64, &[u8])>
-    ensures { Gives (λ x. (x.0, x.1.now)) result (number_at w64 bytes.now) }
+    ensures { Gives (λ x. (x.0, x.1.now)) result (big_endian_at w64 bytes.now) }
 {
     if bytes.len() < 8 {
         return None;

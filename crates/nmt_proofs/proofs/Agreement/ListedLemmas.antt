@@ -12,7 +12,7 @@ use Rattle.nmt_tree.specs.Levels.{leaf_digests, span}
 use Rattle.nmt_proofs.specs.Parts.{Part, leaf, join, digest_of}
 use Rattle.namespace_id.specs.Digests.{no_digest}
 use Rattle.nmt_proofs.specs.Openings.{Shown, begun, is_interval, outside, opened, one_leaf}
-use Rattle.nmt_proofs.specs.Clashes.{Agree, HasDepth, ClashOr, clash_at, whole, AreLeaves, IsOpening, ArePlaces, AreListed}
+use Rattle.nmt_proofs.specs.Clashes.{Agree, HasDepth, ClashOr, clash_at, whole, AreLeaves, IsOpening, ArePlacesBetween, AreListed}
 use Rattle.nmt_proofs.specs.Making.{spans}
 use Rattle.nmt_proofs.proofs.Parts.ListLemmas.{each-append, same_one}
 use Rattle.nmt_proofs.proofs.Parts.BegunLemmas.{places-halves}
@@ -23,12 +23,12 @@ use Rattle.nmt_proofs.proofs.Parts.ShownLemmas.{half_counts, opening-sized, open
 use Rattle.nmt_proofs.proofs.Agreement.PutLemmas.{halved_nodes, no_node}
 
 -- where there is no place, none is shown
-no_more : (low high : ℕ) (xs : List Shown) → high ≤ low → ArePlaces low high xs → xs ≡ []
+no_more : (low high : ℕ) (xs : List Shown) → high ≤ low → ArePlacesBetween low high xs → xs ≡ []
 no_more low high [] h of = refl
 no_more low high (s ∷ xs) h of = absurd (omega (arith, of.1, of.2))
 
 -- where what is opened from a place on agrees with a list, its leaves and its nodes are the list's
-pub agreed : (d st : ℕ) (ns : List Namespace) (ss : List Share) (xs : List Shown) (nodes : List Digest) → ArePlaces st (st + 2 ^ d) xs → length nodes ≡ length (outside d st xs)
+pub agreed : (d st : ℕ) (ns : List Namespace) (ss : List Share) (xs : List Shown) (nodes : List Digest) → ArePlacesBetween st (st + 2 ^ d) xs → length nodes ≡ length (outside d st xs)
     → Agree (opened d st xs nodes) (whole d (drop st ns) (drop st ss)) → AreListed ns ss xs × (nodes ≡ spans (leaf_digests ns ss) (outside d st xs))
 unfolding opened outside
 agreed zero st ns ss [] nodes of count a = (tt, same_one nodes (span (leaf_digests ns ss) st 0 ∷ []) no_digest count refl (a ∙ whole_is_span 0 st ns ss))
@@ -48,7 +48,7 @@ agreed (suc d) st ns ss (s ∷ ys) nodes of count a =
     let j : ℕ = length lo in
     let end : st + 2 ^ suc d ≡ m + 2 ^ d = omega (arith, pow-suc 2 d) in
     let one_place : is_interval (suc d) s ≡ false = single d s of.0 in
-    let parts = places-halves st m (m + 2 ^ d) xs (omega arith) (subst (λ (k : ℕ). ArePlaces st k xs) end of) in
+    let parts = places-halves st m (m + 2 ^ d) xs (omega arith) (subst (λ (k : ℕ). ArePlacesBetween st k xs) end of) in
     let counts = half_counts (is_interval (suc d) s) nodes lo ro one_place count in
     let joined : Part = join (opened d st (take i xs) (take j nodes)) (opened d m (drop i xs) (drop j nodes)) in
     let halved : whole (suc d) (drop st ns) (drop st ss) ≡ join (whole d (drop st ns) (drop st ss)) (whole d (drop m ns) (drop m ss)) = whole-halved d st ns ss in
@@ -74,13 +74,13 @@ pub opening_law : (d : ℕ) (xs : List Shown) (nodes : List Digest) (ns : List N
 opening_law d xs nodes ns ss h g e = listed_or d xs nodes ns ss (Agree (opened d 0 xs nodes) (whole d ns ss)) h g e (λ same. same)
 
 -- of one that shows single places
-pub places_law : (d : ℕ) (xs : List Shown) (nodes : List Digest) (ns : List Namespace) (ss : List Share) → IsOpening d xs nodes → ArePlaces 0 (2 ^ d) xs → AreLeaves d ns ss
+pub places_law : (d : ℕ) (xs : List Shown) (nodes : List Digest) (ns : List Namespace) (ss : List Share) → IsOpening d xs nodes → ArePlacesBetween 0 (2 ^ d) xs → AreLeaves d ns ss
     → digest_of (opened d 0 xs nodes) ≡ root d ns ss
     → ClashOr (opened d 0 xs nodes) (whole d ns ss) (AreListed ns ss xs × (nodes ≡ spans (leaf_digests ns ss) (outside d 0 xs)))
 places_law d xs nodes ns ss h of g e =
     let zero_first : 2 ^ d ≡ 0 + 2 ^ d = omega arith in
     listed_or d xs nodes ns ss (AreListed ns ss xs × (nodes ≡ spans (leaf_digests ns ss) (outside d 0 xs))) h g e
-    (agreed d 0 ns ss xs nodes (subst (λ (k : ℕ). ArePlaces 0 k xs) zero_first of) (eqb-true _ _ h.count))
+    (agreed d 0 ns ss xs nodes (subst (λ (k : ℕ). ArePlacesBetween 0 k xs) zero_first of) (eqb-true _ _ h.count))
 
 -- the list's leaf at a place
 pub leaf_listed : (pos : ℕ) (ns : List Namespace) (ss : List Share) (n : Namespace) (s : Share) → pos < length ns → pos < length ss

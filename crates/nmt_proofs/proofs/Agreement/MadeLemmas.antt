@@ -13,7 +13,7 @@ use Rattle.nmt_proofs.specs.Parts.{Part, join, digest_of, is_in_order}
 use Rattle.namespace_id.specs.Digests.{no_digest}
 use Rattle.nmt_proofs.specs.Openings.{Shown, begun, is_interval, outside, opened, Opens}
 use Rattle.nmt_proofs.specs.Making.{spans, AreAtLeaves}
-use Rattle.nmt_proofs.specs.Clashes.{ArePlaces}
+use Rattle.nmt_proofs.specs.Clashes.{ArePlacesBetween}
 use Rattle.nmt_proofs.proofs.Parts.ListLemmas.{each-take, each-drop}
 use Rattle.nmt_proofs.proofs.Parts.BegunLemmas.{places-halves}
 use Rattle.nmt_proofs.proofs.Parts.SingleLemmas.{one_place, single}
@@ -24,7 +24,7 @@ abbrev pub IsAtLeaf : List Digest → Shown → Type 0
 IsAtLeaf leaves s = (digest_of s.part ≡ get_or leaves s.from no_digest) × (is_in_order s.part ≡ true)
 
 -- shown parts at leaves are single places, and each is at its leaf
-at_leaves : (leaves : List Digest) (low high : ℕ) (ss : List Shown) → AreAtLeaves leaves low high ss → ArePlaces low high ss × AllByRecursion (IsAtLeaf leaves) ss
+at_leaves : (leaves : List Digest) (low high : ℕ) (ss : List Shown) → AreAtLeaves leaves low high ss → ArePlacesBetween low high ss × AllByRecursion (IsAtLeaf leaves) ss
 unfolding AreAtLeaves
 at_leaves leaves low high [] of = (tt, tt)
 at_leaves leaves low high (s ∷ ss) of =
@@ -41,7 +41,7 @@ pub and_true : (a b c : Bool) → a ≡ true → b ≡ true → c ≡ true → (
 and_true a b c ha hb hc = (λ i. ha i && hb i && hc i)
 
 -- the intervals outside and what is shown make the part over all leaves
-made : (leaves : List Digest) (d st : ℕ) (ss : List Shown) → ArePlaces st (st + 2 ^ d) ss → AllByRecursion (IsAtLeaf leaves) ss → HasOrderedJoins leaves st d
+made : (leaves : List Digest) (d st : ℕ) (ss : List Shown) → ArePlacesBetween st (st + 2 ^ d) ss → AllByRecursion (IsAtLeaf leaves) ss → HasOrderedJoins leaves st d
     → IsMade leaves d st (opened d st ss (spans leaves (outside d st ss)))
 unfolding opened outside HasOrderedJoins span
 made leaves zero st [] of each j = record { digest = refl; order = refl }
@@ -58,7 +58,7 @@ made leaves (suc d) st (s ∷ ss) of each j =
     let single_place : is_interval (suc d) s ≡ false = single d s of.0 in
     let p : 2 ^ suc d ≡ 2 ^ d * 2 = pow-suc 2 d in
     let end : st + 2 ^ suc d ≡ m + 2 ^ d = omega (arith, p) in
-    let parts = places-halves st m (m + 2 ^ d) xs (omega arith) (subst (λ (k : ℕ). ArePlaces st k xs) end of) in
+    let parts = places-halves st m (m + 2 ^ d) xs (omega arith) (subst (λ (k : ℕ). ArePlacesBetween st k xs) end of) in
     let nodes : spans leaves (cond (is_interval (suc d) s) [] (lo ++ ro)) ≡ spans leaves lo ++ spans leaves ro =
     ap (λ (b : Bool). spans leaves (cond b [] (lo ++ ro))) single_place ∙ map-append (λ (x : ℕ × ℕ). span leaves x.0 x.1) lo ro in
     let count : length (spans leaves lo) ≡ length lo = length-map lo (λ (x : ℕ × ℕ). span leaves x.0 x.1) in
@@ -80,7 +80,7 @@ pub made_opens : (depth : ℕ) (leaves : List Digest) (ss : List Shown) → AreA
 made_opens depth leaves ss of j =
     let zero_first : 2 ^ depth ≡ 0 + 2 ^ depth = omega arith in
     let at = at_leaves leaves 0 (2 ^ depth) ss of in
-    let m : IsMade leaves depth 0 (opened depth 0 ss (spans leaves (outside depth 0 ss))) = made leaves depth 0 ss (subst (λ (k : ℕ). ArePlaces 0 k ss) zero_first at.0) at.1 j in
+    let m : IsMade leaves depth 0 (opened depth 0 ss (spans leaves (outside depth 0 ss))) = made leaves depth 0 ss (subst (λ (k : ℕ). ArePlacesBetween 0 k ss) zero_first at.0) at.1 j in
     record {
       count = eq-eqb _ _ (length-map (outside depth 0 ss) (λ (x : ℕ × ℕ). span leaves x.0 x.1));
       order = m.order;

@@ -12,9 +12,9 @@ use Rattle.namespace_id.proofs.StringLemmas.{front, behind}
 use Rattle.nmt_tree.specs.Digests.{node_digest, is_ordered_join}
 use Rattle.nmt_proofs.specs.Parts.{Part, given, leaf, join, digest_of, is_in_order}
 use Rattle.nmt_proofs.specs.Openings.{Shown, begun, is_interval, outside, opened, one_leaf, leaves_at, Opens}
-use Rattle.nmt_proofs.specs.Clashes.{clash_at, join_text, IsSized, ArePlaces}
+use Rattle.nmt_proofs.specs.Clashes.{clash_at, join_text, IsSized, ArePlacesBetween}
 use Rattle.nmt_proofs.specs.Places.{AreAscending}
-use Rattle.nmt_proofs.specs.Merging.{Branch, shown_of, leaves_of, merged_nodes, branch_tree, HoldsFrom, HoldsAlong, AreAlike, IsBranch, AreBranches}
+use Rattle.nmt_proofs.specs.Merging.{Branch, branch_shown, leaves_of, merged_nodes, branch_tree, HoldsFrom, HoldsAlong, BranchesAgree, IsBranch, AreBranches}
 use Rattle.nmt_proofs.proofs.Parts.ListLemmas.{each-take, each-drop, each-then, each-both}
 use Rattle.nmt_proofs.proofs.Parts.BegunLemmas.{places-halves}
 use Rattle.nmt_proofs.proofs.Parts.SingleLemmas.{single, opened_left, opened_right}
@@ -210,7 +210,7 @@ begun_before m (x ∷ xs) =
     ]
 
 -- places from the middle on
-not_before : (low high m : ℕ) (xs : List Branch) → m ≤ low → ArePlaces low high (leaves_of xs) → AllByRecursion (λ x. ltb x.pos m ≡ false) xs
+not_before : (low high m : ℕ) (xs : List Branch) → m ≤ low → ArePlacesBetween low high (leaves_of xs) → AllByRecursion (λ x. ltb x.pos m ≡ false) xs
 not_before low high m [] h of = tt
 not_before low high m (x ∷ xs) h of = (le-ltb x.pos m (omega (arith, h, of.1)), not_before (x.pos + 1) high m xs (omega (arith, h, of.1)) of.3)
 
@@ -256,14 +256,14 @@ merged_halves d st t g A B D gl gr b bs same el er en eo l r =
     let rm : List Digest = merged_nodes d m (suc t) gr (drop k xs) in
     let nodes : merged_nodes d st t (get_or b.nodes t no_digest) (take k xs) ++ merged_nodes d m (suc t) (get_or b.nodes (t + d) no_digest) (drop k xs) ≡ lm ++ rm =
     ap₂ (λ (x y : Digest). merged_nodes d st t x (take k xs) ++ merged_nodes d m (suc t) y (drop k xs)) (sym el) (sym er) in
-    let one : is_interval (suc d) (shown_of b) ≡ false = single d (shown_of b) refl in
-    let ls : take k ss ≡ leaves_of (take k xs) = take-map shown_of k xs in
-    let rs : drop k ss ≡ leaves_of (drop k xs) = drop-map shown_of k xs in
+    let one : is_interval (suc d) (branch_shown b) ≡ false = single d (branch_shown b) refl in
+    let ls : take k ss ≡ leaves_of (take k xs) = take-map branch_shown k xs in
+    let rs : drop k ss ≡ leaves_of (drop k xs) = drop-map branch_shown k xs in
     let count : length lm ≡ length (outside d st (take k ss)) = l.count ∙ sym (ap (λ (x : List Shown). length (outside d st x)) ls) in
     let j : ℕ = length (outside d st (take k ss)) in
     let lp : Part = opened d st (leaves_of (take k xs)) lm in
     let rp : Part = opened d m (leaves_of (drop k xs)) rm in
-    let Of : List Digest → Part = λ ns. cond (is_interval (suc d) (shown_of b)) (leaf b.name b.share) (join (opened d st (take k ss) (take j ns)) (opened d m (drop k ss) (drop j ns))) in
+    let Of : List Digest → Part = λ ns. cond (is_interval (suc d) (branch_shown b)) (leaf b.name b.share) (join (opened d st (take k ss) (take j ns)) (opened d m (drop k ss) (drop j ns))) in
     let whole : Of (merged_nodes d st t (get_or b.nodes t no_digest) (take k xs) ++ merged_nodes d m (suc t) (get_or b.nodes (t + d) no_digest) (drop k xs)) ≡ join lp rp =
     ap Of nodes
     ∙ ap (λ (c : Bool). cond c (leaf b.name b.share) (join (opened d st (take k ss) (take j (lm ++ rm))) (opened d m (drop k ss) (drop j (lm ++ rm))))) one
@@ -317,7 +317,7 @@ taken_none : (k : ℕ) (x : Branch) (xs : List Branch) → length (take k (x ∷
 taken_none zero x xs h = refl
 taken_none (suc k) x xs h = absurd (omega arith)
 
-merged : (d st t : ℕ) (g D : Digest) (xs : List Branch) → (length xs ≡ 0 → g ≡ D) → ArePlaces st (st + 2 ^ d) (leaves_of xs)
+merged : (d st t : ℕ) (g D : Digest) (xs : List Branch) → (length xs ≡ 0 → g ≡ D) → ArePlacesBetween st (st + 2 ^ d) (leaves_of xs)
     → AllByRecursion (λ x. IsFit D (tree_in d st t x)) xs → HoldsAlong (Alike d st t) xs → IsMerged d st t g D xs
 unfolding merged_nodes opened outside tree_in
 merged d st t g D [] none of fits chain = merged_none d st t g D (none refl)
@@ -328,15 +328,15 @@ merged (suc d) st t g D (b ∷ bs) none of fits chain =
     let m : ℕ = st + 2 ^ d in
     let k : ℕ = begun m ss in
     let end : st + 2 ^ suc d ≡ m + 2 ^ d = omega (arith, pow-suc 2 d) in
-    let parts = places-halves st m (m + 2 ^ d) ss (omega arith) (subst (λ (n : ℕ). ArePlaces st n ss) end of) in
+    let parts = places-halves st m (m + 2 ^ d) ss (omega arith) (subst (λ (n : ℕ). ArePlacesBetween st n ss) end of) in
     let first : JoinFits D (left_in d st t b) (right_in d st t b) = join_fits D (left_in d st t b) (right_in d st t b) (subst (IsFit D) (tree_halves d st t b) fits.0) in
     let A : Digest = digest_of (left_in d st t b) in
     let B : Digest = digest_of (right_in d st t b) in
     let fit : HalvesFit d st t A B b = record { left = first.left; right = first.right } in
     let all : AllFit d st t A B b bs = all_fit d st t A B D b bs fit fits.0 fits.1 chain in
     let all_halves : AllByRecursion (HalvesFit d st t A B) xs = (fit, all.fit) in
-    let left_places : ArePlaces st m (leaves_of (take k xs)) = subst (ArePlaces st m) (take-map shown_of k xs) parts.0 in
-    let right_places : ArePlaces m (m + 2 ^ d) (leaves_of (drop k xs)) = subst (ArePlaces m (m + 2 ^ d)) (drop-map shown_of k xs) parts.1 in
+    let left_places : ArePlacesBetween st m (leaves_of (take k xs)) = subst (ArePlacesBetween st m) (take-map branch_shown k xs) parts.0 in
+    let right_places : ArePlacesBetween m (m + 2 ^ d) (leaves_of (drop k xs)) = subst (ArePlacesBetween m (m + 2 ^ d)) (drop-map branch_shown k xs) parts.1 in
     let before : AllByRecursion (λ x. ltb x.pos m ≡ true) (take k xs) = begun_before m xs in
     let past : AllByRecursion (λ x. ltb x.pos m ≡ false) (drop k xs) = not_before m (m + 2 ^ d) m (drop k xs) (omega arith) right_places in
     let l : IsMerged d st t (get_or b.nodes t no_digest) A (take k xs) =
@@ -365,10 +365,10 @@ merged (suc d) st t g D (b ∷ bs) none of fits chain =
 leaves_listed : (bs : List Branch) → leaves_of bs ≡ leaves_at (map (λ b. b.pos) bs) (map (λ b. b.name) bs) (map (λ b. b.share) bs)
 unfolding leaves_at
 leaves_listed [] = refl
-leaves_listed (b ∷ bs) = ap (λ (l : List Shown). shown_of b ∷ l) (leaves_listed bs)
+leaves_listed (b ∷ bs) = ap (λ (l : List Shown). branch_shown b ∷ l) (leaves_listed bs)
 
 -- ascending places are single places
-pub places_listed : (low high : ℕ) (bs : List Branch) → AreAscending low high (map (λ b. b.pos) bs) → ArePlaces low high (leaves_of bs)
+pub places_listed : (low high : ℕ) (bs : List Branch) → AreAscending low high (map (λ b. b.pos) bs) → ArePlacesBetween low high (leaves_of bs)
 places_listed low high [] h = tt
 places_listed low high (b ∷ bs) h = (refl, h.0, h.1, places_listed (b.pos + 1) high bs h.2)
 
@@ -391,9 +391,9 @@ merged_opens d root g bs some h =
     let zero_first : 2 ^ d ≡ 0 + 2 ^ d = omega arith in
     let m : IsMerged d 0 0 g root bs =
     merged d 0 0 g root bs (λ e. absurd (omega (arith, some, e)))
-    (subst (λ (k : ℕ). ArePlaces 0 k (leaves_of bs)) zero_first (places_listed 0 (2 ^ d) bs h.places))
+    (subst (λ (k : ℕ). ArePlacesBetween 0 k (leaves_of bs)) zero_first (places_listed 0 (2 ^ d) bs h.places))
     (each-then _ _ (branch_fits d root) bs h.each)
-    (along-weaken (IsBranch d root) (AreAlike d) (Alike d 0 0) bs (λ x y hx hy e.
+    (along-weaken (IsBranch d root) (BranchesAgree d) (Alike d 0 0) bs (λ x y hx hy e.
     subst₂ (λ (p q : Part). clash_at p q ≡ None) (branch_tree-in d root x hx) (branch_tree-in d root y hy) e) h.each h.alike) in
     subst (λ (ss : List Shown). Opens d ss (merged_nodes d 0 0 g bs) root) (leaves_listed bs) (record {
       count = eq-eqb _ _ m.count;

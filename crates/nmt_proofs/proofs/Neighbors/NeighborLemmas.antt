@@ -14,7 +14,7 @@ use Rattle.nmt_proofs.specs.Openings.{Shown, outside, leaves_from, digests_from,
 use Rattle.nmt_proofs.specs.Making.{spans, AreAtLeaves}
 use Rattle.nmt_proofs.specs.Clashes.{AreLeaves}
 use Rattle.nmt_proofs.specs.Complete.{range_break, IsBetween}
-use Rattle.nmt_proofs.specs.Pieces.{shown, shown_of}
+use Rattle.nmt_proofs.specs.Pieces.{shown_pieces, shown_of}
 use Rattle.nmt_proofs.proofs.Neighbors.RunLemmas.{run_leaves, length-leaves_from, run_digests, length-digests_from, outside-run}
 use Rattle.nmt_proofs.proofs.Neighbors.BesideLemmas.{outside_few}
 use Rattle.nmt_proofs.proofs.Agreement.MadeLemmas.{made_opens}
@@ -34,21 +34,21 @@ digests_from-append from (c ∷ ds) d =
 -- one more piece for one more place
 pub place_more : (from i : ℕ) (so_far next : List Piece) (ds : List Digest) (p : Piece)
     → next ≡ so_far ++ p ∷ [] → length ds ≡ i → p.from ≡ from + i → p.size ≡ 1
-    → shown so_far ≡ digests_from from ds → shown next ≡ digests_from from (ds ++ p.digest ∷ [])
+    → shown_pieces so_far ≡ digests_from from ds → shown_pieces next ≡ digests_from from (ds ++ p.digest ∷ [])
 place_more from i so_far next ds p en el ef ez h =
-    ap shown en
+    ap shown_pieces en
     ∙ map-append shown_of so_far (p ∷ [])
     ∙ ap₂ (λ (a b : List Shown). a ++ b) h (λ k. let x : Shown = record { from = (ef ∙ ap (λ (n : ℕ). from + n) (sym el)) k; size = ez k; part = given p.digest } in x ∷ [])
     ∙ sym (digests_from-append from ds p.digest)
 
 -- so many pieces are so many places
-places_of : (from count : ℕ) (room ps : List Piece) (digest : Digest) → count ≤ length room → shown ps ≡ digests_from from (replicate (length (take count room)) digest)
-    → shown ps ≡ digests_from from (replicate count digest)
+places_of : (from count : ℕ) (room ps : List Piece) (digest : Digest) → count ≤ length room → shown_pieces ps ≡ digests_from from (replicate (length (take count room)) digest)
+    → shown_pieces ps ≡ digests_from from (replicate count digest)
 places_of from count room ps digest fits e = e ∙ ap (λ (k : ℕ). digests_from from (replicate k digest)) (length-take-le count room fits)
 
 -- neighboring places leave out at most two intervals a level
 pub few_beside : (d from count : ℕ) (room ps : List Piece) (digest : Digest) → d ≤ most_depth → 0 < count → from + count ≤ 2 ^ d → count ≤ length room
-    → shown ps ≡ digests_from from (replicate (length (take count room)) digest) → length (outside d 0 (shown ps)) ≤ 2 * most_depth
+    → shown_pieces ps ≡ digests_from from (replicate (length (take count room)) digest) → length (outside d 0 (shown_pieces ps)) ≤ 2 * most_depth
 few_beside d from count room ps digest deep some fits room_fits e =
     let ss : List Shown = digests_from from (replicate count digest) in
     let len : length ss ≡ count = length-digests_from from (replicate count digest) ∙ length-replicate count digest in
@@ -58,7 +58,7 @@ few_beside d from count room ps digest deep some fits room_fits e =
 
 -- they leave out the same intervals, whatever digests are shown there
 pub outside_places : (d from count : ℕ) (room ps : List Piece) (digest : Digest) (leaves : List Digest) → count ≤ length room → from + count ≤ length leaves
-    → shown ps ≡ digests_from from (replicate (length (take count room)) digest) → outside d 0 (shown ps) ≡ outside d 0 (digests_from from (take count (drop from leaves)))
+    → shown_pieces ps ≡ digests_from from (replicate (length (take count room)) digest) → outside d 0 (shown_pieces ps) ≡ outside d 0 (digests_from from (take count (drop from leaves)))
 outside_places d from count room ps digest leaves room_fits fits e =
     let front : length (take count (drop from leaves)) ≡ count = length-take-le count (drop from leaves) (omega (arith, length-drop from leaves)) in
     ap (outside d 0) (places_of from count room ps digest room_fits e)
@@ -102,14 +102,14 @@ range_opens d from count leaves nodes name shares fits len joins en same e =
     (made_opens d leaves (leaves_from from name shares) at joins)
 
 -- and leave no place for a namespace of which all leaves stand in the range
-pub range_complete : (d from count : ℕ) (leaves nodes : List Digest) (name : Namespace) (names : List Namespace) (shares shown : List Share) → 0 < count
+pub range_complete : (d from count : ℕ) (leaves nodes : List Digest) (name : Namespace) (names : List Namespace) (shares shown_pieces : List Share) → 0 < count
     → from + count ≤ 2 ^ d → length leaves ≡ 2 ^ d → nodes ≡ spans leaves (outside d 0 (digests_from from (take count (drop from leaves))))
-    → AreLeaves d names shares → leaves ≡ leaf_digests names shares → IsBetween name names from (from + count) → length shown ≡ count
-    → range_break d from name shown nodes ≡ None
-range_complete d from count leaves nodes name names shares shown some fits len en of el between same =
+    → AreLeaves d names shares → leaves ≡ leaf_digests names shares → IsBetween name names from (from + count) → length shown_pieces ≡ count
+    → range_break d from name shown_pieces nodes ≡ None
+range_complete d from count leaves nodes name names shares shown_pieces some fits len en of el between same =
     let front : length (take count (drop from leaves)) ≡ count = length-take-le count (drop from leaves) (omega (arith, length-drop from leaves)) in
-    ap (range_break d from name shown)
-    (en ∙ ap (spans leaves) (outside_leaves d from (take count (drop from leaves)) name shown (front ∙ sym same))
-    ∙ ap (λ (l : List Digest). spans l (outside d 0 (leaves_from from name shown))) el)
-    ∙ made_range d from name names shares shown of (omega (arith, same, some)) (omega (arith, same, fits))
+    ap (range_break d from name shown_pieces)
+    (en ∙ ap (spans leaves) (outside_leaves d from (take count (drop from leaves)) name shown_pieces (front ∙ sym same))
+    ∙ ap (λ (l : List Digest). spans l (outside d 0 (leaves_from from name shown_pieces))) el)
+    ∙ made_range d from name names shares shown_pieces of (omega (arith, same, some)) (omega (arith, same, fits))
     (subst (λ (k : ℕ). IsBetween name names from (from + k)) (sym same) between)

@@ -9,7 +9,7 @@ use Rattle.namespace_id.specs.declared.shares.Share.{Share}
 use Rattle.nmt_proofs.specs.declared.opening.OpenRefusal.{OpenRefusal}
 use Rattle.nmt_proofs.specs.declared.opening.OpenRefusal.TheVariants.{Incomplete}
 use Rattle.nmt_proofs.specs.Openings.{Shown, has_count, has_order, has_root, Opens, shadow, leaves_from, one_digest}
-use Rattle.nmt_proofs.specs.Pieces.{shown}
+use Rattle.nmt_proofs.specs.Pieces.{shown_pieces}
 use Rattle.nmt_proofs.specs.Causes.{HasCause, OpensRange, OpensAbsence}
 use Rattle.nmt_proofs.specs.Complete.{range_break, absence_break}
 use Rattle.nmt_proofs.proofs.Parts.ShadowLemmas.{AreInOrder, given_alone, outside-parts, alike-shadow}
@@ -17,15 +17,15 @@ use Rattle.nmt_proofs.proofs.Parts.CauseLemmas.{accepts, incomplete}
 
 -- the checks see the same where pieces have the digests of what is shown
 pub same_cause : (d : ℕ) (ps : List Piece) (ss : List Shown) (ns : List Digest) (root : Digest) (b : Option ℕ) (r : Result (Unit {0}) OpenRefusal)
-    → shown ps ≡ shadow ss → AreInOrder ss
-    → HasCause r (has_count d (shown ps) ns) (has_order d (shown ps) ns) (has_root d (shown ps) ns root) b
+    → shown_pieces ps ≡ shadow ss → AreInOrder ss
+    → HasCause r (has_count d (shown_pieces ps) ns) (has_order d (shown_pieces ps) ns) (has_root d (shown_pieces ps) ns root) b
     → HasCause r (has_count d ss ns) (has_order d ss ns) (has_root d ss ns root) b
 same_cause d ps ss ns root b r e o h =
     let alike = alike-shadow d 0 ss ns o in
-    let count : has_count d (shown ps) ns ≡ has_count d ss ns =
+    let count : has_count d (shown_pieces ps) ns ≡ has_count d ss ns =
     ap (λ (l : List Shown). has_count d l ns) e ∙ ap (λ (l : List (ℕ × ℕ)). length ns == length l) (outside-parts given_alone d 0 ss) in
-    let order : has_order d (shown ps) ns ≡ has_order d ss ns = ap (λ (l : List Shown). has_order d l ns) e ∙ alike.order in
-    let value : has_root d (shown ps) ns root ≡ has_root d ss ns root =
+    let order : has_order d (shown_pieces ps) ns ≡ has_order d ss ns = ap (λ (l : List Shown). has_order d l ns) e ∙ alike.order in
+    let value : has_root d (shown_pieces ps) ns root ≡ has_root d ss ns root =
     ap (λ (l : List Shown). has_root d l ns root) e ∙ ap (λ (x : Digest). bytes_eq x.0 root.0) alike.digest in
     subst (λ (x : Bool × Bool × Bool). HasCause r x.0 x.1 x.2 b) (λ i. (count i, order i, value i)) h
 

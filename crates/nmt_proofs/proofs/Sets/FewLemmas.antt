@@ -7,7 +7,7 @@ use Rattle.std.proofs.Math.Nat.{pow-suc}
 use Rattle.namespace_id.specs.declared.namespaces.Namespace.{Namespace}
 use Rattle.namespace_id.specs.declared.shares.Share.{Share}
 use Rattle.nmt_proofs.specs.Openings.{Shown, begun, is_interval, outside, leaves_at}
-use Rattle.nmt_proofs.specs.Clashes.{ArePlaces}
+use Rattle.nmt_proofs.specs.Clashes.{ArePlacesBetween}
 use Rattle.nmt_proofs.specs.Places.{AreAscending}
 use Rattle.nmt_proofs.proofs.Parts.BegunLemmas.{places-halves}
 use Rattle.nmt_proofs.proofs.Parts.SingleLemmas.{single, outside_empty}
@@ -29,7 +29,7 @@ halves_count : (b : Bool) (left right : List (ℕ × ℕ)) → b ≡ false → l
 halves_count b left right f = ap (λ (c : Bool). length (cond c [] (left ++ right))) f ∙ length-append left right
 
 -- single places leave out at most half as many intervals as there are places
-pub half_few : (d st : ℕ) (ss : List Shown) → 0 < length ss → ArePlaces st (st + 2 ^ suc d) ss → length (outside (suc d) st ss) ≤ 2 ^ d
+pub half_few : (d st : ℕ) (ss : List Shown) → 0 < length ss → ArePlacesBetween st (st + 2 ^ suc d) ss → length (outside (suc d) st ss) ≤ 2 ^ d
 unfolding outside
 half_few d st [] some of = absurd (omega arith)
 half_few zero st (s ∷ ss) some of =
@@ -52,7 +52,7 @@ half_few (suc d) st (s ∷ ss) some of =
     let half : 2 ^ suc d ≡ 2 ^ d + 2 ^ d = omega (arith, pow-suc 2 d) in
     let end : st + 2 ^ suc (suc d) ≡ m + 2 ^ suc d = omega (arith, twice) in
     let sum = halves_count (is_interval (suc (suc d)) s) (outside (suc d) st (take i xs)) (outside (suc d) m (drop i xs)) (single (suc d) s of.0) in
-    let both = places-halves st m (m + 2 ^ suc d) xs (omega arith) (subst (λ (n : ℕ). ArePlaces st n xs) end of) in
+    let both = places-halves st m (m + 2 ^ suc d) xs (omega arith) (subst (λ (n : ℕ). ArePlacesBetween st n xs) end of) in
     let l : length (outside (suc d) st (take i xs)) ≤ 2 ^ d = elim (cases_lt 0 (length (take i xs))) [
       | inl some_left ↦ half_few d st (take i xs) some_left both.0
       | inr none ↦ omega (arith, none_left (suc d) st (take i xs) (omega (arith, none)), pow_pos d)
@@ -77,4 +77,4 @@ pub set_few : (d : ℕ) (places : List ℕ) (names : List Namespace) (shares : L
 set_few d places names shares some h k up =
     let zero_first : 2 ^ suc d ≡ 0 + 2 ^ suc d = omega arith in
     half_few d 0 (leaves_at places names shares) (omega (arith, length-leaves_at places names shares h k, some))
-    (subst (λ (n : ℕ). ArePlaces 0 n (leaves_at places names shares)) zero_first (set_places 0 (2 ^ suc d) places names shares up))
+    (subst (λ (n : ℕ). ArePlacesBetween 0 n (leaves_at places names shares)) zero_first (set_places 0 (2 ^ suc d) places names shares up))

@@ -8,13 +8,13 @@ use Rattle.nmt_tree.specs.Roots.{root}
 use Rattle.nmt_tree.specs.Levels.{leaf_digests}
 use Rattle.nmt_proofs.specs.Parts.{digest_of}
 use Rattle.nmt_proofs.specs.Openings.{outside, opened, leaves_at}
-use Rattle.nmt_proofs.specs.Clashes.{Agree, ClashOr, whole, AreLeaves, IsOpening, ArePlaces, AreListed, AreLeavesOf}
+use Rattle.nmt_proofs.specs.Clashes.{Agree, ClashOr, whole, AreLeaves, IsOpening, ArePlacesBetween, AreListed, AreLeavesOf}
 use Rattle.nmt_proofs.specs.Making.{spans}
 use Rattle.nmt_proofs.specs.Places.{AreAscending}
 use Rattle.nmt_proofs.proofs.Agreement.ListedLemmas.{agreed, leaf_listed, listed_or}
 
 -- the leaves of a set are at single places
-pub set_places : (low high : ℕ) (places : List ℕ) (names : List Namespace) (shares : List Share) → AreAscending low high places → ArePlaces low high (leaves_at places names shares)
+pub set_places : (low high : ℕ) (places : List ℕ) (names : List Namespace) (shares : List Share) → AreAscending low high places → ArePlacesBetween low high (leaves_at places names shares)
 unfolding leaves_at
 set_places low high [] names shares h = tt
 set_places low high (p ∷ places) [] shares h = tt
@@ -39,7 +39,7 @@ pub set_agreed : (d : ℕ) (places : List ℕ) (names : List Namespace) (shares 
     → AreLeavesOf ns ss places names shares × (nodes ≡ spans (leaf_digests ns ss) (outside d 0 (leaves_at places names shares)))
 set_agreed d places names shares nodes ns ss h up g same =
     let zero_first : 2 ^ d ≡ 0 + 2 ^ d = omega arith in
-    let at : ArePlaces 0 (0 + 2 ^ d) (leaves_at places names shares) = subst (λ (k : ℕ). ArePlaces 0 k (leaves_at places names shares)) zero_first (set_places 0 (2 ^ d) places names shares up) in
+    let at : ArePlacesBetween 0 (0 + 2 ^ d) (leaves_at places names shares) = subst (λ (k : ℕ). ArePlacesBetween 0 k (leaves_at places names shares)) zero_first (set_places 0 (2 ^ d) places names shares up) in
     let listed = agreed d 0 ns ss (leaves_at places names shares) nodes at (eqb-true _ _ h.count) same in
     (set_listed 0 (2 ^ d) places names shares ns ss (omega (arith, g.name_count)) (omega (arith, g.share_count)) up listed.0, listed.1)
 

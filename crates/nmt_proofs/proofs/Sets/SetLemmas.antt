@@ -10,7 +10,7 @@ use Rattle.nmt_proofs.specs.declared.joining.Piece.{Piece}
 use Rattle.nmt_proofs.specs.Parts.{given, leaf}
 use Rattle.nmt_proofs.specs.Openings.{Shown, leaves_at, intervals_from, shadow, shadow_of}
 use Rattle.nmt_proofs.specs.Places.{AreAscending, AreAligned}
-use Rattle.nmt_proofs.specs.Pieces.{shown, shown_of}
+use Rattle.nmt_proofs.specs.Pieces.{shown_pieces, shown_of}
 use Rattle.nmt_proofs.proofs.Parts.ShadowLemmas.{AreInOrder}
 
 -- one more place gives one more leaf
@@ -38,9 +38,9 @@ set_in_order (p ∷ places) (n ∷ names) (s ∷ shares) = (refl, set_in_order p
 pub set_more : (so_far next : List Piece) (ps ps' : List ℕ) (ns ns' : List Namespace) (ss ss' : List Share) (pos : ℕ) (n : Namespace) (s : Share) (p : Piece)
     → next ≡ so_far ++ p ∷ [] → ps' ≡ ps ++ pos ∷ [] → ns' ≡ ns ++ n ∷ [] → ss' ≡ ss ++ s ∷ [] → length ns ≡ length ps → length ss ≡ length ps
     → p.from ≡ pos → p.size ≡ 1 → p.digest ≡ leaf_digest n s
-    → shown so_far ≡ shadow (leaves_at ps ns ss) → shown next ≡ shadow (leaves_at ps' ns' ss')
+    → shown_pieces so_far ≡ shadow (leaves_at ps ns ss) → shown_pieces next ≡ shadow (leaves_at ps' ns' ss')
 set_more so_far next ps ps' ns ns' ss ss' pos n s p en ep em es ln ls ef ez ed h =
-    ap shown en
+    ap shown_pieces en
     ∙ map-append shown_of so_far (p ∷ [])
     ∙ ap₂ (λ (a b : List Shown). a ++ b) h (λ k. let x : Shown = record { from = ef k; size = ez k; part = given (ed k) } in x ∷ [])
     ∙ sym ((λ k. shadow (leaves_at (ep k) (em k) (es k)))
@@ -84,9 +84,9 @@ next_end from at sizes i h e =
 pub interval_more : (from : ℕ) (so_far next : List Piece) (zs zs' : List ℕ) (ds ds' : List Digest) (size : ℕ) (d : Digest) (p : Piece)
     → next ≡ so_far ++ p ∷ [] → zs' ≡ zs ++ size ∷ [] → ds' ≡ ds ++ d ∷ [] → length ds ≡ length zs
     → p.from ≡ end_of from zs → p.size ≡ size → p.digest ≡ d
-    → shown so_far ≡ intervals_from from zs ds → shown next ≡ intervals_from from zs' ds'
+    → shown_pieces so_far ≡ intervals_from from zs ds → shown_pieces next ≡ intervals_from from zs' ds'
 interval_more from so_far next zs zs' ds ds' size d p en ez eds el ef es ed h =
-    ap shown en
+    ap shown_pieces en
     ∙ map-append shown_of so_far (p ∷ [])
     ∙ ap₂ (λ (a b : List Shown). a ++ b) h (λ k. let x : Shown = record { from = ef k; size = es k; part = given (ed k) } in x ∷ [])
     ∙ sym ((λ k. intervals_from from (ez k) (eds k)) ∙ intervals_from-append from zs ds size d el)

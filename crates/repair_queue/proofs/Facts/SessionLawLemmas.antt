@@ -11,8 +11,8 @@ use Rattle.repair_queue.specs.declared.fed.SessionState.TheVariants as state
 use Rattle.repair_queue.specs.Closures.{Half, IsDecided, Covers}
 use Rattle.repair_queue.specs.Settled.{IsSettled}
 use Rattle.repair_queue.specs.Verdicts.{fraud, clash, IsVerdict}
-use Rattle.repair_queue.specs.SessionParts.{SessionParts, SessionEnd, going, accused, collided, is_known, IsShownBy, StandsOpen, StandsBy, StandsFor}
-use Rattle.repair_queue.specs.Sessions.{state_by, state_of}
+use Rattle.repair_queue.specs.SessionParts.{SessionParts, SessionEnd, going, accused, collided, is_known, IsShownBy, StandsOpen, StandsBy, SessionStands}
+use Rattle.repair_queue.specs.Sessions.{state_by, session_state}
 use Rattle.repair_queue.proofs.Facts.ClosureLemmas.{half_grows, fact_grows}
 use Rattle.repair_queue.proofs.Facts.GrowthLemmas.{settled_same, fraud_grows, clash_grows}
 
@@ -22,15 +22,15 @@ by_open s ms going is stand = stand
 by_open s ms (accused claim) is stand = absurd cc
 by_open s ms (collided left right) is stand = absurd cc
 
-pub open_stands_open : (s : SessionParts) (ms : List Message) → state_of s ≡ state.Open → StandsFor s ms → StandsOpen s ms
+pub open_stands_open : (s : SessionParts) (ms : List Message) → session_state s ≡ state.Open → SessionStands s ms → StandsOpen s ms
 open_stands_open s ms is stand = by_open s ms s.ended is stand
 
 -- the samples of an open session are settled
-pub session_settled : (s : SessionParts) (ms : List Message) → state_of s ≡ state.Open → StandsFor s ms → IsSettled s.header ms
+pub session_settled : (s : SessionParts) (ms : List Message) → session_state s ≡ state.Open → SessionStands s ms → IsSettled s.header ms
 session_settled s ms is stand = (open_stands_open s ms is stand).settled
 
 -- and its known cells are the recoverable ones
-pub session_known : (s : SessionParts) (ms : List Message) → state_of s ≡ state.Open → StandsFor s ms → (cell : Cell)
+pub session_known : (s : SessionParts) (ms : List Message) → session_state s ≡ state.Open → SessionStands s ms → (cell : Cell)
     → is_in_square s.header.k cell ≡ true → (is_known s cell ≡ true) ↔ Half s.header ms cell
 session_known s ms is stand = (open_stands_open s ms is stand).known
 
@@ -39,7 +39,7 @@ by_fraud : (s : SessionParts) (ms : List Message) (end : SessionEnd) (claim : Cl
     → IsVerdict s.header ms (fraud claim)
 by_fraud s ms end claim is stand = subst (λ (e : SessionEnd). StandsBy s ms e) is stand
 
-pub session_accused : (s : SessionParts) (ms : List Message) (claim : ClaimParts) → s.ended ≡ accused claim → StandsFor s ms
+pub session_accused : (s : SessionParts) (ms : List Message) (claim : ClaimParts) → s.ended ≡ accused claim → SessionStands s ms
     → IsVerdict s.header ms (fraud claim)
 session_accused s ms claim is stand = by_fraud s ms s.ended claim is stand
 
@@ -47,7 +47,7 @@ by_clash : (s : SessionParts) (ms : List Message) (end : SessionEnd) (left right
     → IsVerdict s.header ms (clash left right)
 by_clash s ms end left right is stand = subst (λ (e : SessionEnd). StandsBy s ms e) is stand
 
-pub session_collided : (s : SessionParts) (ms : List Message) (left right : List ℕ) → s.ended ≡ collided left right → StandsFor s ms
+pub session_collided : (s : SessionParts) (ms : List Message) (left right : List ℕ) → s.ended ≡ collided left right → SessionStands s ms
     → IsVerdict s.header ms (clash left right)
 session_collided s ms left right is stand = by_clash s ms s.ended left right is stand
 
@@ -92,6 +92,6 @@ by_same s ms others (accused claim) to from stand = fraud_grows s.header ms othe
 by_same s ms others (collided left right) to from stand = clash_grows s.header ms others left right to stand
 
 -- so does any other
-pub session_same : (s : SessionParts) (ms others : List Message) → Covers s.header ms others → Covers s.header others ms → StandsFor s ms
-    → StandsFor s others
+pub session_same : (s : SessionParts) (ms others : List Message) → Covers s.header ms others → Covers s.header others ms → SessionStands s ms
+    → SessionStands s others
 session_same s ms others to from stand = by_same s ms others s.ended to from stand

@@ -35,7 +35,7 @@ use Rattle.repair_queue.specs.Closures.{AreChosen, Fact}
 use Rattle.repair_queue.specs.Slots.{Kept, Flags}
 use Rattle.repair_queue.specs.Lines.{AreFacts}
 use Rattle.repair_queue.specs.Verdicts.{IsFraud}
-use Rattle.repair_queue.specs.Boards.{Shared, is_lined, is_found, first_share, found_share, given_of, decided_of, share_of, mark_of}
+use Rattle.repair_queue.specs.Boards.{Shared, is_lined, is_found, share_of_first, found_share, given_of, decided_of, shared_of, mark_of}
 use Rattle.repair_queue.specs.Tools.{AreGathered}
 use Rattle.repair_queue.specs.Judging.{IsTakenAt, AreFoundAt, AreShownBy}
 use Rattle.repair_queue.specs.Moves.{IsMessageAt}
@@ -188,7 +188,7 @@ pub record AreTakenTo (header : Roots) (old now : Board) (axis : Axis) (i : ℕ)
   pub grid : now.grid ≡ old.grid
   pub later : (other : Axis) (j : ℕ) → n ≤ j → j < length known
       → given_of now other (cell_on axis i (get_or known j 0)) ≡ given_of old other (cell_on axis i (get_or known j 0))
-  pub are : (line : List Share) → AreShownBy (given_of old) (decided_of old) (share_of old) axis i known line
+  pub are : (line : List Share) → AreShownBy (given_of old) (decided_of old) (shared_of old) axis i known line
       → AreOfLine header axis i line (take n known) cells
 
 module _ (header : Roots) (old now : Board) (axis : Axis) (i : ℕ) (known : List ℕ) (cells : List Proved) (n : ℕ)
@@ -207,16 +207,16 @@ module _ (header : Roots) (old now : Board) (axis : Axis) (i : ℕ) (known : Lis
       ∙ found n below
 
   -- by the share that it had
-  share_still : found_share (given_of now) (decided_of now) (share_of now) here ≡ found_share (given_of old) (decided_of old) (share_of old) here
+  share_still : found_share (given_of now) (decided_of now) (shared_of now) here ≡ found_share (given_of old) (decided_of old) (shared_of old) here
   share_still =
-      ap (λ (m : Marks). cond (is_lined (mark_of m) here) (share_of now here) (first_share (given_of now Row here) (given_of now Col here))) to.marks
-      ∙ ap (λ (g : SquareShares). cond (is_lined (decided_of old) here) (share_at (2 * g.k) g.shares here) (first_share (given_of now Row here) (given_of now Col here))) to.grid
-      ∙ ap₂ (λ (r s : Option Proved). cond (is_lined (decided_of old) here) (share_of old here) (first_share r s)) (to.later Row n (omega arith) below)
+      ap (λ (m : Marks). cond (is_lined (mark_of m) here) (shared_of now here) (share_of_first (given_of now Row here) (given_of now Col here))) to.marks
+      ∙ ap (λ (g : SquareShares). cond (is_lined (decided_of old) here) (share_at (2 * g.k) g.shares here) (share_of_first (given_of now Row here) (given_of now Col here))) to.grid
+      ∙ ap₂ (λ (r s : Option Proved). cond (is_lined (decided_of old) here) (shared_of old here) (share_of_first r s)) (to.later Row n (omega arith) below)
       (to.later Col n (omega arith) below)
 
   -- one sample more
   pub taken_more : (k : ℕ) (new : Board) (cell : Cell) (d : ℕ) (kept : Proved) (more : List Proved) → AreChosen k known → cell ≡ cell_on axis i (get_or known n d)
-      → more ≡ cells ++ kept ∷ [] → IsMessageAt header cell (found_share (given_of now) (decided_of now) (share_of now) cell) kept → IsTakenAt now new cell
+      → more ≡ cells ++ kept ∷ [] → IsMessageAt header cell (found_share (given_of now) (decided_of now) (shared_of now) cell) kept → IsTakenAt now new cell
       → AreTakenTo header old new axis i known more (n + 1)
   taken_more k new cell d kept more chosen is appended message taken =
       let place : cell ≡ here = is ∙ ap (cell_on axis i) (get_or_default known n d 0 below) in
@@ -235,6 +235,6 @@ module _ (header : Roots) (old now : Board) (axis : Axis) (i : ℕ) (known : Lis
               under = message.under;
               cell = message.cell_is ∙ place;
               share =
-                  message.share_is ∙ ap (found_share (given_of now) (decided_of now) (share_of now)) place ∙ share_still ∙ shown n below;
+                  message.share_is ∙ ap (found_share (given_of now) (decided_of now) (shared_of now)) place ∙ share_still ∙ shown n below;
             })));
       }

@@ -15,9 +15,9 @@ use Rattle.repair_queue.specs.declared.ending.Ended.TheVariants as ended
 use Rattle.repair_queue.specs.declared.fed.SessionState.TheVariants as state
 use Rattle.repair_queue.specs.Closures.{Half}
 use Rattle.repair_queue.specs.OpenBoards.{IsOpenBoard}
-use Rattle.repair_queue.specs.SessionParts.{SessionParts, message_at, marks_of, StandsFor}
+use Rattle.repair_queue.specs.SessionParts.{SessionParts, message_kept, marks_of, SessionStands}
 use Rattle.repair_queue.specs.Views.{end_of}
-use Rattle.repair_queue.specs.Sessions.{state_by, state_of}
+use Rattle.repair_queue.specs.Sessions.{state_by, session_state}
 use Rattle.repair_queue.proofs.Facts.SessionLawLemmas.{open_stands_open}
 use Rattle.repair_queue.proofs.Facts.VerdictLemmas.{all_decided}
 
@@ -35,13 +35,13 @@ open_marks header b tools None held is = held.0.parts.marks_width ∙ sym held.0
 open_marks header b tools (Some (ended.Fraud proof)) held is = absurd cc
 open_marks header b tools (Some (ended.Clash clash)) held is = absurd cc
 
-module _ (s : SessionParts) (ms : List Message) (is : state_of s ≡ state.Open) (stand : StandsFor s ms) where
+module _ (s : SessionParts) (ms : List Message) (is : session_state s ≡ state.Open) (stand : SessionStands s ms) where
   -- where all rows are decided all cells are recoverable
   pub rows_all : ((i : ℕ) → i < 2 * s.header.k → marks_of s Row i ≡ true) → (cell : Cell) → is_in_square s.header.k cell ≡ true → Half s.header ms cell
   rows_all rows cell within =
       let row : marks_of s Row cell.row ≡ true = rows cell.row (inside s.header.k cell within).0 in
       ((open_stands_open s ms is stand).known cell within).0
-      (ap (λ (b : Bool). (b || marks_of s Col cell.col) || is_some (message_at s Row cell) || is_some (message_at s Col cell)) row)
+      (ap (λ (b : Bool). (b || marks_of s Col cell.col) || is_some (message_kept s Row cell) || is_some (message_kept s Col cell)) row)
 
   -- and where all cells are recoverable all rows are decided
   pub all_rows : ((cell : Cell) → is_in_square s.header.k cell ≡ true → Half s.header ms cell) → (i : ℕ) → i < 2 * s.header.k → marks_of s Row i ≡ true
@@ -49,8 +49,8 @@ module _ (s : SessionParts) (ms : List Message) (is : state_of s ≡ state.Open)
 
 -- a test that tells whether all rows are decided tells whether all cells are recoverable
 pub rows_tell : (s : SessionParts) (k : ℕ) (test : Bool) → k ≡ s.header.k → (test ≡ true → (i : ℕ) → i < 2 * k → marks_of s Row i ≡ true)
-    → (test ≡ false → (i : ℕ) × (i < 2 * k) × (marks_of s Row i ≡ false)) → state_of s ≡ state.Open
-    → (ms : List Message) → StandsFor s ms → (test ≡ true) ↔ ((cell : Cell) → is_in_square s.header.k cell ≡ true → Half s.header ms cell)
+    → (test ≡ false → (i : ℕ) × (i < 2 * k) × (marks_of s Row i ≡ false)) → session_state s ≡ state.Open
+    → (ms : List Message) → SessionStands s ms → (test ≡ true) ↔ ((cell : Cell) → is_in_square s.header.k cell ≡ true → Half s.header ms cell)
 rows_tell s k test width all some is ms stand = (
   (λ told. rows_all s ms is stand (λ i h. all told i (subst (λ (w : ℕ). i < 2 * w) (sym width) h))),
   λ halves. elim (cases_Bool test) [

@@ -25,8 +25,8 @@ use Rattle.repair_queue.specs.Closures.{Half, Fact}
 use Rattle.repair_queue.specs.Settled.{IsSettled}
 use Rattle.repair_queue.specs.Verdicts.{VerdictParts, IsWhole, IsMissing, IsVerdict}
 use Rattle.repair_queue.specs.Repairs.{IsEnd}
-use Rattle.repair_queue.specs.Answers.{parts_of, EndsAs}
-use Rattle.repair_queue.specs.Boards.{given_of, decided_of, share_of, is_found, IsGood, AreAtRest, HoldsFor}
+use Rattle.repair_queue.specs.Answers.{verdict_parts, EndsAs}
+use Rattle.repair_queue.specs.Boards.{given_of, decided_of, shared_of, is_found, IsGood, AreAtRest, HoldsFor}
 use Rattle.repair_queue.specs.OpenBoards.{IsOpenBoard, KeepsFor}
 use Rattle.repair_queue.specs.Views.{end_of}
 use Rattle.repair_queue.specs.Sessions.{state_by, AreLeft, AreNotFound, AreOriginals}
@@ -47,15 +47,15 @@ module _ (header : Roots) (b : Board) (good : IsGood header b) (rest : AreAtRest
     (stand : HoldsFor header ms b) where
   -- the samples are settled
   pub open_settled : IsSettled header ms
-  open_settled = rest_settled header ms (given_of b) (decided_of b) (share_of b) good.sound stand rest
+  open_settled = rest_settled header ms (given_of b) (decided_of b) (shared_of b) good.sound stand rest
 
   -- a known cell is recoverable
   known_half : (cell : Cell) → is_in_square header.k cell ≡ true → is_found (given_of b) (decided_of b) cell ≡ true → Half header ms cell
-  known_half = found_half header ms (given_of b) (decided_of b) (share_of b) good.sound stand
+  known_half = found_half header ms (given_of b) (decided_of b) (shared_of b) good.sound stand
 
   -- and a recoverable one is known
   half_known : (cell : Cell) → Half header ms cell → is_found (given_of b) (decided_of b) cell ≡ true
-  half_known = half_found header ms (given_of b) (decided_of b) (share_of b) good.sound stand rest
+  half_known = half_found header ms (given_of b) (decided_of b) (shared_of b) good.sound stand rest
 
   -- so the unknown cells are those that aren't recoverable
   pub left_over : (cells : CellList) → AreNotFound b cells → AreLeft header ms cells
@@ -94,12 +94,12 @@ module _ (header : Roots) (b : Board) (good : IsGood header b) (rest : AreAtRest
     ]
 
     -- each original one lies on a decided row, and its share is a fact
-    original_fact : (cell : Cell) → is_original header.k cell ≡ true → Fact header ms cell (share_of b cell)
+    original_fact : (cell : Cell) → is_original header.k cell ≡ true → Fact header ms cell (shared_of b cell)
     original_fact cell within =
         let quarter = original-inside header.k cell within in
         let there : is_in_square header.k cell ≡ true = original_inside header.k cell quarter.0 quarter.1 in
-        lined_fact header ms (given_of b) (decided_of b) (share_of b) good.sound stand cell there
-        (lined_by (decided_of b) Row cell (decided_set header ms (given_of b) (decided_of b) (share_of b) good.sound stand rest Row cell.row
+        lined_fact header ms (given_of b) (decided_of b) (shared_of b) good.sound stand cell there
+        (lined_by (decided_of b) Row cell (decided_set header ms (given_of b) (decided_of b) (shared_of b) good.sound stand rest Row cell.row
         (all_decided header ms all_half Row cell.row (inside header.k cell there).0)))
 
     -- so the shares of these are a whole square
@@ -110,7 +110,7 @@ module _ (header : Roots) (b : Board) (good : IsGood header b) (rest : AreAtRest
         (record { width = roots.width; count = originals.count ∙ ap (λ (k : ℕ). k * k) (sym good.width) })
         refl all_half open_settled (λ cell within.
         subst (λ (s : Share). Fact header ms cell s)
-        (sym (subst (λ (k : ℕ). share_at k shares cell ≡ share_of b cell) (sym good.width)
+        (sym (subst (λ (k : ℕ). share_at k shares cell ≡ shared_of b cell) (sym good.width)
         (originals.are cell (subst (λ (k : ℕ). is_original k cell ≡ true) good.width within))))
         (original_fact cell within))
 
@@ -130,6 +130,6 @@ held_left header b tools (Some (ended.Clash clash)) held is cells are ms stand =
 
 -- what ended a session is an answer
 pub ended_verdict : (header : Roots) (ms : List Message) (end : Ended) (verdict : Verdict) → IsEnd header ms end → EndsAs end verdict
-    → IsVerdict header ms (parts_of verdict)
+    → IsVerdict header ms (verdict_parts verdict)
 ended_verdict header ms (ended.Fraud proof) verdict is as_it = subst (λ (v : VerdictParts). IsVerdict header ms v) (sym as_it) is
 ended_verdict header ms (ended.Clash pair) verdict is as_it = subst (λ (v : VerdictParts). IsVerdict header ms v) (sym as_it) is

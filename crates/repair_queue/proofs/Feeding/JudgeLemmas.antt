@@ -19,7 +19,7 @@ use Rattle.repair_queue.specs.declared.boards.Board.{Board}
 use Rattle.repair_queue.specs.Closures.{Fact}
 use Rattle.repair_queue.specs.Settled.{along}
 use Rattle.repair_queue.specs.Slots.{Kept, Flags, IsKnown, IsEmptied}
-use Rattle.repair_queue.specs.Boards.{Shared, is_lined, is_found, first_share, found_share, given_of, decided_of, share_of, IsSound, HoldsFor}
+use Rattle.repair_queue.specs.Boards.{Shared, is_lined, is_found, share_of_first, found_share, given_of, decided_of, shared_of, IsSound, HoldsFor}
 use Rattle.repair_queue.specs.Judging.{IsReadable, IsOtherMessage}
 use Rattle.repair_queue.specs.Moves.{IsMessageAt}
 use Rattle.repair_queue.proofs.Places.PlaceLemmas.{same_slot}
@@ -37,18 +37,18 @@ known_given slot flag cell found off = elim (found_how slot flag cell found) [
 pub line_there : (header : Roots) (b : Board) (axis : Axis) (cell : Cell) → IsReadable header b → is_in_square header.k cell ≡ true
     → decided_of b axis (index axis cell) ≡ true → IsLineOf header axis (index axis cell) (axis_shares b.grid.k b.grid.shares axis (index axis cell))
 line_there header b axis cell readable within on =
-    subst (λ (k : ℕ). IsLineOf header axis (index axis cell) (along k (share_of b) axis (index axis cell))) readable.width
+    subst (λ (k : ℕ). IsLineOf header axis (index axis cell) (along k (shared_of b) axis (index axis cell))) readable.width
     (readable.sound.lines axis (index axis cell) (index-lt header.k axis cell within) on)
 
 -- a sample that was taken
 pub taken_message : (header : Roots) (slot : Kept) (flag : Flags) (shares : Shared) (cell : Cell) (kept : Proved) (axis : Axis) → IsSound header slot flag shares
-    → slot axis cell ≡ Some kept → is_lined flag cell ≡ false → (kept_message kept).share ≡ first_share (slot Row cell) (slot Col cell)
+    → slot axis cell ≡ Some kept → is_lined flag cell ≡ false → (kept_message kept).share ≡ share_of_first (slot Row cell) (slot Col cell)
     → IsMessageAt header cell (found_share slot flag shares cell) kept
 taken_message header slot flag shares cell kept axis sound held off share =
     let s = sound.slotted axis cell kept held in record {
       under = s.under;
       cell_is = s.cell_is;
-      share_is = share ∙ sym (ap (λ (b : Bool). cond b (shares cell) (first_share (slot Row cell) (slot Col cell))) off);
+      share_is = share ∙ sym (ap (λ (b : Bool). cond b (shares cell) (share_of_first (slot Row cell) (slot Col cell))) off);
     }
 
 -- what is left is sound
@@ -75,8 +75,8 @@ pub other_fact : (header : Roots) (ms : List Message) (b : Board) (cell : Cell) 
 other_fact header ms b cell share kept inside readable stand o =
     subst (λ (c : Cell). Fact header ms c (kept_message kept).share) (sym o.cell_is) (elim o.known [
       | inl (off, (axis, held)) ↦
-          shown_fact header ms (given_of b) (decided_of b) (share_of b) readable.sound stand axis cell (kept_message kept).share off
+          shown_fact header ms (given_of b) (decided_of b) (shared_of b) readable.sound stand axis cell (kept_message kept).share off
           (record { kept = kept; held = held; share_is = refl })
       | inr (on, same) ↦
-          subst (Fact header ms cell) (sym same) (lined_fact header ms (given_of b) (decided_of b) (share_of b) readable.sound stand cell inside on)
+          subst (Fact header ms cell) (sym same) (lined_fact header ms (given_of b) (decided_of b) (shared_of b) readable.sound stand cell inside on)
     ])

@@ -21,7 +21,7 @@ use Rattle.repair_queue.specs.Slots.{Kept, Flags, IsPut, IsAlike}
 use Rattle.repair_queue.specs.Repairs.{Shows}
 use Rattle.repair_queue.specs.Pools.{PoolParts, slot_in, samples_of_row}
 use Rattle.repair_queue.specs.Counts.{Numbers, count_of, pending, IsRaised, AreQueued}
-use Rattle.repair_queue.specs.Boards.{given_of, decided_of, share_of, is_lined, is_found, found_count, AreAtRest, AreCounted, AreWaiting, IsGood, HoldsFor}
+use Rattle.repair_queue.specs.Boards.{given_of, decided_of, shared_of, is_lined, is_found, found_count, AreAtRest, AreCounted, AreWaiting, IsGood, HoldsFor}
 use Rattle.repair_queue.specs.Moves.{IsKeptOn}
 use Rattle.repair_queue.proofs.Places.PlaceLemmas.{own_or_crossing, same_cell}
 use Rattle.repair_queue.proofs.Places.TakenLemmas.{under_proved}
@@ -132,14 +132,14 @@ module _ (header : Roots) (b : Board) (good : IsGood header b) (kept : Proved) (
         counts_width = same ∙ good.parts.counts_width;
         digests = good.parts.digests;
       };
-      sound = put_sound header (given_of b) (slot_in pool) (decided_of b) (share_of b) kept under empty put good.sound;
+      sound = put_sound header (given_of b) (slot_in pool) (decided_of b) (shared_of b) kept under empty put good.sound;
       leaves = good.leaves;
       counted = counted;
       queued = queued;
     }
 
     stands_with : (counts : Counts) (ms : List Message) → HoldsFor header ms b → HoldsFor header (ms ++ kept_message kept ∷ []) (board_with counts)
-    stands_with counts ms stand = put_stands header (given_of b) (slot_in pool) (decided_of b) (share_of b) kept under empty put off ms stand
+    stands_with counts ms stand = put_stands header (given_of b) (slot_in pool) (decided_of b) (shared_of b) kept under empty put off ms stand
 
     -- where the cell was known
     pub keeps_known : (other : Proved) → given_of b (crossing (kept_message kept).axis) (kept_message kept).cell ≡ Some other
@@ -203,11 +203,11 @@ module _ (header : Roots) (b : Board) (good : IsGood header b) (kept : Proved) (
 -- a sample that shows a share which is shown already
 pub keeps_shown : (header : Roots) (b : Board) → IsGood header b → (m : Message) (axis : Axis) → is_lined (decided_of b) m.cell ≡ false
     → Shows (given_of b axis m.cell) m.share → IsKeptOn header b b m
-keeps_shown header b good m axis off shows = (good, λ ms stand. stands_shown header ms (given_of b) (decided_of b) (share_of b) m stand off axis shows)
+keeps_shown header b good m axis off shows = (good, λ ms stand. stands_shown header ms (given_of b) (decided_of b) (shared_of b) m stand off axis shows)
 
 -- or the share of its decided row or column
-pub keeps_lined : (header : Roots) (b : Board) → IsGood header b → (m : Message) → is_lined (decided_of b) m.cell ≡ true → share_of b m.cell ≡ m.share → IsKeptOn header b b m
-keeps_lined header b good m on same = (good, λ ms stand. stands_lined header ms (given_of b) (decided_of b) (share_of b) m stand on same)
+pub keeps_lined : (header : Roots) (b : Board) → IsGood header b → (m : Message) → is_lined (decided_of b) m.cell ≡ true → shared_of b m.cell ≡ m.share → IsKeptOn header b b m
+keeps_lined header b good m on same = (good, λ ms stand. stands_lined header ms (given_of b) (decided_of b) (shared_of b) m stand on same)
 
 -- ---- as the code looks at them
 

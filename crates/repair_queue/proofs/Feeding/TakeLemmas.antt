@@ -24,17 +24,17 @@ use Rattle.repair_queue.specs.Settled.{along}
 use Rattle.repair_queue.specs.Lines.{AreFacts}
 use Rattle.repair_queue.specs.Repairs.{IsEnd}
 use Rattle.repair_queue.specs.Verdicts.{IsFoundClash}
-use Rattle.repair_queue.specs.Boards.{given_of, decided_of, share_of, is_lined, IsGood, HoldsFor}
+use Rattle.repair_queue.specs.Boards.{given_of, decided_of, shared_of, is_lined, IsGood, HoldsFor}
 use Rattle.repair_queue.proofs.Places.TakenLemmas.{under_proved}
 use Rattle.repair_queue.proofs.Facts.BesideLemmas.{AreBeside, two_messages}
 use Rattle.repair_queue.proofs.Feeding.StandLemmas.{fact_more}
 
 -- the line that is read of a decided row or column
-pub grid_line : (header : Roots) (b : Board) → IsGood header b → (axis : Axis) (i : ℕ) → along header.k (share_of b) axis i ≡ axis_shares b.grid.k b.grid.shares axis i
-grid_line header b good axis i = ap (λ (k : ℕ). map (share_of b) (axis_cells k axis i)) good.width
+pub grid_line : (header : Roots) (b : Board) → IsGood header b → (axis : Axis) (i : ℕ) → along header.k (shared_of b) axis i ≡ axis_shares b.grid.k b.grid.shares axis i
+grid_line header b good axis i = ap (λ (k : ℕ). map (shared_of b) (axis_cells k axis i)) good.width
 
 module _ (header : Roots) (s t : Board) (good : IsGood header s) (message back : Proved) (under : IsUnder header message) (axis : Axis) (same_back : back ≡ message) (same : t ≡ s)
-    (on : decided_of s axis (index axis (kept_message message).cell) ≡ true) (apart : share_of s (kept_message message).cell ≢ (kept_message message).share)
+    (on : decided_of s axis (index axis (kept_message message).cell) ≡ true) (apart : shared_of s (kept_message message).cell ≢ (kept_message message).share)
     (i : ℕ) (line read : List Share) (m : Message) (is : m ≡ kept_message back) (at : i ≡ index axis m.cell)
     (was_read : read ≡ axis_shares t.grid.k t.grid.shares axis i) (as_read : line ≡ read) where
   -- the index is that of the sample's cell
@@ -47,15 +47,15 @@ module _ (header : Roots) (s t : Board) (good : IsGood header s) (message back :
   decided : decided_of s axis i ≡ true
   decided = ap (decided_of s axis) own ∙ on
 
-  line_is : line ≡ along header.k (share_of s) axis i
+  line_is : line ≡ along header.k (shared_of s) axis i
   line_is = as_read ∙ was_read ∙ ap (λ (b : Board). axis_shares b.grid.k b.grid.shares axis i) same ∙ sym (grid_line header s good axis i)
 
   -- the line is the header's
   pub taken_line : IsLineOf header axis i line
   taken_line = subst (IsLineOf header axis i) (sym line_is) (good.sound.lines axis i within decided)
 
-  entry_is : (pos : ℕ) → pos < 2 * header.k → entry line pos ≡ share_of s (cell_on axis i pos)
-  entry_is pos below = ap (λ (l : List Share). entry l pos) line_is ∙ get_or-along header.k (share_of s) axis i pos blank below
+  entry_is : (pos : ℕ) → pos < 2 * header.k → entry line pos ≡ shared_of s (cell_on axis i pos)
+  entry_is pos below = ap (λ (l : List Share). entry l pos) line_is ∙ get_or-along header.k (shared_of s) axis i pos blank below
 
   -- the sample is against it
   pub taken_against : IsAgainst header axis i line back
@@ -65,8 +65,8 @@ module _ (header : Roots) (s t : Board) (good : IsGood header s) (message back :
     apart = λ e.
         let cell : Cell = (kept_message message).cell in
         let below : position axis cell < 2 * header.k = position-lt header.k axis cell (under_proved header message under).inside in
-        let here : share_of s (cell_on axis i (position axis cell)) ≡ share_of s cell =
-        ap (λ (n : ℕ). share_of s (cell_on axis n (position axis cell))) own ∙ ap (share_of s) (cell_on-own axis cell) in
+        let here : shared_of s (cell_on axis i (position axis cell)) ≡ shared_of s cell =
+        ap (λ (n : ℕ). shared_of s (cell_on axis n (position axis cell))) own ∙ ap (shared_of s) (cell_on-own axis cell) in
         apart (sym here ∙ sym (entry_is (position axis cell) below) ∙ sym e);
   })
 

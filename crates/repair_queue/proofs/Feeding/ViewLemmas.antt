@@ -25,11 +25,11 @@ use Rattle.repair_queue.specs.Closures.{Fact, shown, IsDecided}
 use Rattle.repair_queue.specs.Settled.{IsLineSettled}
 use Rattle.repair_queue.specs.Repairs.{Shows, IsSlotted}
 use Rattle.repair_queue.specs.Places.{places_in}
-use Rattle.repair_queue.specs.Boards.{is_lined, is_found, given_of, decided_of, share_of, IsGood, AreAtRest, HoldsFor}
+use Rattle.repair_queue.specs.Boards.{is_lined, is_found, given_of, decided_of, shared_of, IsGood, AreAtRest, HoldsFor}
 use Rattle.repair_queue.specs.Moves.{Steps}
 use Rattle.repair_queue.specs.OpenBoards.{IsOpenBoard, KeepsFor}
-use Rattle.repair_queue.specs.SessionParts.{message_at, is_known, line_share, IsShownBy, KeepsShare, StandsOpen, StandsFor}
-use Rattle.repair_queue.specs.Views.{message_of, parts_by}
+use Rattle.repair_queue.specs.SessionParts.{message_kept, is_known, line_share, IsShownBy, KeepsShare, StandsOpen, SessionStands}
+use Rattle.repair_queue.specs.Views.{certified_message, parts_by}
 use Rattle.repair_queue.proofs.Facts.ChosenLemmas.{first_chosen, chosen-lt}
 use Rattle.repair_queue.proofs.Facts.ClosureLemmas.{fact_half}
 use Rattle.repair_queue.proofs.Places.TakenLemmas.{under_proved}
@@ -44,31 +44,31 @@ map_at f d (x ∷ xs) zero = refl
 map_at f d (x ∷ xs) (suc i) = map_at f d xs i
 
 -- a sample is there where a certificate is
-same_some : (slot : Option Proved) → is_some (message_of slot) ≡ is_some slot
+same_some : (slot : Option Proved) → is_some (certified_message slot) ≡ is_some slot
 same_some (Some kept) = refl
 same_some None = refl
 
 -- the certificate of a sample that is there
-of_some : (slot : Option Proved) (m : Message) → message_of slot ≡ Some m → (kept : Proved) × (slot ≡ Some kept) × (kept_message kept ≡ m)
+of_some : (slot : Option Proved) (m : Message) → certified_message slot ≡ Some m → (kept : Proved) × (slot ≡ Some kept) × (kept_message kept ≡ m)
 of_some (Some kept) m e = (kept, refl, cc)
 of_some None m e = absurd cc
 
 module _ (header : Roots) (b : Board) (good : IsGood header b) (end : Option Ended) where
   -- the sample that is seen of a cell is that of the certificate that is kept
-  pub message_here : (axis : Axis) (cell : Cell) → message_at (parts_by header b end) axis cell ≡ message_of (given_of b axis cell)
+  pub message_here : (axis : Axis) (cell : Cell) → message_kept (parts_by header b end) axis cell ≡ certified_message (given_of b axis cell)
   message_here axis cell =
-      ap (λ (k : ℕ). get_or (map message_of b.pool.given) (places_in k b.pool.places.rows b.pool.places.cols axis cell) None)
+      ap (λ (k : ℕ). get_or (map certified_message b.pool.given) (places_in k b.pool.places.rows b.pool.places.cols axis cell) None)
       (good.width ∙ sym good.parts.pool_width)
-      ∙ map_at message_of None b.pool.given (places_in b.pool.places.k b.pool.places.rows b.pool.places.cols axis cell)
+      ∙ map_at certified_message None b.pool.given (places_in b.pool.places.k b.pool.places.rows b.pool.places.cols axis cell)
 
   -- so is the share of a cell
-  pub share_here : (cell : Cell) → line_share (parts_by header b end) cell ≡ share_of b cell
+  pub share_here : (cell : Cell) → line_share (parts_by header b end) cell ≡ shared_of b cell
   share_here cell = ap (λ (k : ℕ). share_at (2 * k) b.grid.shares cell) good.width
 
   -- and the known cells are those of the board
   pub known_here : (cell : Cell) → is_known (parts_by header b end) cell ≡ is_found (given_of b) (decided_of b) cell
   known_here cell =
-      ap (λ (x : Bool). is_lined (decided_of b) cell || x || is_some (message_at (parts_by header b end) Col cell))
+      ap (λ (x : Bool). is_lined (decided_of b) cell || x || is_some (message_kept (parts_by header b end) Col cell))
       (ap is_some (message_here Row cell) ∙ same_some (given_of b Row cell))
       ∙ ap (λ (x : Bool). is_lined (decided_of b) cell || is_some (given_of b Row cell) || x)
       (ap is_some (message_here Col cell) ∙ same_some (given_of b Col cell))
@@ -77,7 +77,7 @@ module _ (header : Roots) (b : Board) (good : IsGood header b) (ms : List Messag
   -- what the board keeps stands for samples for which the session stands
   pub stands_holds : (end : Option Ended) → StandsOpen (parts_by header b end) ms → HoldsFor header ms b
   stands_holds end stand = record {
-    fed = λ axis cell kept off held. (stand.kept axis cell (kept_message kept) off (message_here header b good end axis cell ∙ ap message_of held)).listed;
+    fed = λ axis cell kept off held. (stand.kept axis cell (kept_message kept) off (message_here header b good end axis cell ∙ ap certified_message held)).listed;
     facts = λ axis i pos hi hp on.
         subst (Fact header ms (cell_on axis i pos)) (share_here header b good end (cell_on axis i pos))
         (stand.shares (cell_on axis i pos) (on_axis_in_square header.k axis i pos hi hp) (lined_on (decided_of b) axis i pos on));
@@ -89,9 +89,9 @@ module _ (header : Roots) (b : Board) (good : IsGood header b) (ms : List Messag
         (stand.decided axis (index axis m.cell) (index-lt header.k axis m.cell proved.inside)).0 one.1 in
         let x : IsLineSettled header ms axis (index axis m.cell) = stand.settled axis (index axis m.cell) d in
         let below : position axis m.cell < 2 * header.k = position-lt header.k axis m.cell proved.inside in
-        let kept : Fact header ms m.cell (share_of b m.cell) =
+        let kept : Fact header ms m.cell (shared_of b m.cell) =
         subst (Fact header ms m.cell) (share_here header b good end m.cell) (stand.shares m.cell proved.inside on) in
-        (x.only (position axis m.cell) below (share_of b m.cell)).0 (subst (λ (c : Cell). Fact header ms c (share_of b m.cell)) (sym here) kept)
+        (x.only (position axis m.cell) below (shared_of b m.cell)).0 (subst (λ (c : Cell). Fact header ms c (shared_of b m.cell)) (sym here) kept)
         ∙ sym ((x.only (position axis m.cell) below m.share).0 (subst (λ (c : Cell). Fact header ms c m.share) (sym here) (shown m at proved)));
     shown = λ m at proved off.
         let keeps : KeepsShare (parts_by header b end) m.cell m.share =
@@ -108,12 +108,12 @@ module _ (header : Roots) (b : Board) (good : IsGood header b) (ms : List Messag
       chosen = ascending 0 header.k;
       are_chosen = first_chosen header.k;
       halves = λ p at.
-          fact_half header ms (cell_on axis i p) (share_of b (cell_on axis i p))
+          fact_half header ms (cell_on axis i p) (shared_of b (cell_on axis i p))
           (hold.facts axis i p within (chosen-lt header.k (ascending 0 header.k) (first_chosen header.k) p at) on);
     }
 
     -- the sample of a certificate that is kept is one of them
-    shown_by : (axis : Axis) (cell : Cell) (m : Message) → is_lined (decided_of b) cell ≡ false → message_of (given_of b axis cell) ≡ Some m
+    shown_by : (axis : Axis) (cell : Cell) (m : Message) → is_lined (decided_of b) cell ≡ false → certified_message (given_of b axis cell) ≡ Some m
         → IsShownBy header ms cell m
     shown_by axis cell m off e =
         let held = of_some (given_of b axis cell) m e in
@@ -131,23 +131,23 @@ module _ (header : Roots) (b : Board) (good : IsGood header b) (ms : List Messag
     keeps_share end m off at proved =
         let there = hold.shown m at proved off in
         let shows : Shows (given_of b there.0 m.cell) m.share = there.1 in
-        (there.0, kept_message shows.kept, message_here header b good end there.0 m.cell ∙ ap message_of shows.held, shows.share_is)
+        (there.0, kept_message shows.kept, message_here header b good end there.0 m.cell ∙ ap certified_message shows.held, shows.share_is)
 
     -- the session stands for the samples for which its board's contents do
     pub holds_stands : (end : Option Ended) → StandsOpen (parts_by header b end) ms
     holds_stands end = record {
       known = λ cell inside. (
-        (λ is. found_half header ms (given_of b) (decided_of b) (share_of b) good.sound hold cell inside (sym (known_here header b good end cell) ∙ is)),
-        λ half. known_here header b good end cell ∙ half_found header ms (given_of b) (decided_of b) (share_of b) good.sound hold rest cell half,
+        (λ is. found_half header ms (given_of b) (decided_of b) (shared_of b) good.sound hold cell inside (sym (known_here header b good end cell) ∙ is)),
+        λ half. known_here header b good end cell ∙ half_found header ms (given_of b) (decided_of b) (shared_of b) good.sound hold rest cell half,
       );
-      settled = rest_settled header ms (given_of b) (decided_of b) (share_of b) good.sound hold rest;
+      settled = rest_settled header ms (given_of b) (decided_of b) (shared_of b) good.sound hold rest;
       decided = λ axis i within. (
         (λ on. set_decided axis i within on),
-        λ d. decided_set header ms (given_of b) (decided_of b) (share_of b) good.sound hold rest axis i d,
+        λ d. decided_set header ms (given_of b) (decided_of b) (shared_of b) good.sound hold rest axis i d,
       );
       shares = λ cell inside on.
           subst (Fact header ms cell) (sym (share_here header b good end cell))
-          (lined_fact header ms (given_of b) (decided_of b) (share_of b) good.sound hold cell inside on);
+          (lined_fact header ms (given_of b) (decided_of b) (shared_of b) good.sound hold cell inside on);
       kept = λ axis cell m off e. shown_by axis cell m off (sym (message_here header b good end axis cell) ∙ e);
       shown = λ cell m off by.
           subst (λ (c : Cell). KeepsShare (parts_by header b end) c m.share) by.cell_is
@@ -156,14 +156,14 @@ module _ (header : Roots) (b : Board) (good : IsGood header b) (ms : List Messag
 
 -- a session that stands for samples keeps what stands for them
 pub stands_keeps : (header : Roots) (b : Board) (tools : Tools) (end : Option Ended) → IsOpenBoard header b tools end → (ms : List Message)
-    → StandsFor (parts_by header b end) ms → KeepsFor header ms b end
+    → SessionStands (parts_by header b end) ms → KeepsFor header ms b end
 stands_keeps header b tools None held ms stand = stands_holds header b held.0 ms None stand
 stands_keeps header b tools (Some (ended.Fraud proof)) held ms stand = stand
 stands_keeps header b tools (Some (ended.Clash pair)) held ms stand = stand
 
 -- and the other way round
 pub keeps_stands : (header : Roots) (b : Board) (tools : Tools) (end : Option Ended) → IsOpenBoard header b tools end → (ms : List Message)
-    → KeepsFor header ms b end → StandsFor (parts_by header b end) ms
+    → KeepsFor header ms b end → SessionStands (parts_by header b end) ms
 keeps_stands header b tools None held ms keeps = holds_stands header b held.0 ms held.2 keeps None
 keeps_stands header b tools (Some (ended.Fraud proof)) held ms keeps = keeps
 keeps_stands header b tools (Some (ended.Clash pair)) held ms keeps = keeps
@@ -172,14 +172,14 @@ keeps_stands header b tools (Some (ended.Clash pair)) held ms keeps = keeps
 
 -- after a step
 pub step_stands : (header : Roots) (old new : Board) (before after : Tools) (end result : Option Ended) (none : Bool) (m : Message) → is_some end ≡ not none
-    → none ≡ true → IsOpenBoard header old before end → Steps header old new after m result → (ms : List Message) → StandsFor (parts_by header old end) ms
-    → StandsFor (parts_by header new result) (ms ++ m ∷ [])
+    → none ≡ true → IsOpenBoard header old before end → Steps header old new after m result → (ms : List Message) → SessionStands (parts_by header old end) ms
+    → SessionStands (parts_by header new result) (ms ++ m ∷ [])
 step_stands header old new before after end result none m test is held steps ms stand =
     keeps_stands header new after result (step_open header old new after m result steps) (ms ++ m ∷ [])
     (step_keeps header old new after m result steps ms (open_stands header ms old end none test is (stands_keeps header old before end held ms stand)))
 
 -- where something ended the session before
 pub ended_stands : (header : Roots) (b : Board) (tools : Tools) (end : Option Ended) (none : Bool) (m : Message) → is_some end ≡ not none → none ≡ false
-    → IsOpenBoard header b tools end → (ms : List Message) → StandsFor (parts_by header b end) ms → StandsFor (parts_by header b end) (ms ++ m ∷ [])
+    → IsOpenBoard header b tools end → (ms : List Message) → SessionStands (parts_by header b end) ms → SessionStands (parts_by header b end) (ms ++ m ∷ [])
 ended_stands header b tools end none m test is held ms stand =
     keeps_stands header b tools end held (ms ++ m ∷ []) (ended_keeps header ms m b end none test is (stands_keeps header b tools end held ms stand))

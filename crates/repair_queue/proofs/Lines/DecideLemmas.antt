@@ -22,7 +22,7 @@ use Rattle.repair_queue.specs.declared.ending.Ended.{Ended}
 use Rattle.repair_queue.specs.Closures.{AreChosen, Fact, rebuilt}
 use Rattle.repair_queue.specs.Slots.{Kept, Flags}
 use Rattle.repair_queue.specs.Lines.{AreFacts}
-use Rattle.repair_queue.specs.Boards.{Shared, is_lined, is_found, first_share, found_share, given_of, decided_of, share_of, IsSound, Stands, HoldsFor}
+use Rattle.repair_queue.specs.Boards.{Shared, is_lined, is_found, share_of_first, found_share, given_of, decided_of, shared_of, IsSound, Stands, HoldsFor}
 use Rattle.repair_queue.specs.Judging.{IsAlikeAt, IsApartAt, IsApartOrAlike}
 use Rattle.repair_queue.specs.Tools.{AreGathered}
 use Rattle.repair_queue.specs.Moves.{SettlesLine, DecidesLine}
@@ -33,8 +33,8 @@ use Rattle.repair_queue.proofs.Places.TakeFromLemmas.{message_or_not}
 
 -- whether a position was found
 pub apart_or_alike : (k n : ℕ) (b : Board) (axis : Axis) (i : ℕ) (line : List Share) (apart : Option ℕ) → n ≡ k
-    → (IsNone apart → (pos : ℕ) → pos < 2 * n → IsAlikeAt (given_of b) (decided_of b) (share_of b) (cell_on axis i pos) (entry line pos))
-    → IfSome apart (λ pos. (pos < 2 * n) × IsApartAt (given_of b) (decided_of b) (share_of b) (cell_on axis i pos) (entry line pos))
+    → (IsNone apart → (pos : ℕ) → pos < 2 * n → IsAlikeAt (given_of b) (decided_of b) (shared_of b) (cell_on axis i pos) (entry line pos))
+    → IfSome apart (λ pos. (pos < 2 * n) × IsApartAt (given_of b) (decided_of b) (shared_of b) (cell_on axis i pos) (entry line pos))
     → IsApartOrAlike k b axis i line apart
 apart_or_alike k n b axis i line None same none some = λ pos below. none refl pos (subst (λ (m : ℕ). pos < 2 * m) (sym same) below)
 apart_or_alike k n b axis i line (Some pos) same none some = (subst (λ (m : ℕ). pos < 2 * m) same some.0, some.1)
@@ -44,18 +44,18 @@ module _ (header : Roots) (ms : List Message) (slot : Kept) (flag : Flags) (shar
   pub found_fact : (cell : Cell) → is_in_square header.k cell ≡ true → is_found slot flag cell ≡ true → Fact header ms cell (found_share slot flag shares cell)
   found_fact cell inside found = elim (cases_Bool (is_lined flag cell)) [
     | inl on ↦
-        subst (Fact header ms cell) (sym (ap (λ (b : Bool). cond b (shares cell) (first_share (slot Row cell) (slot Col cell))) on))
+        subst (Fact header ms cell) (sym (ap (λ (b : Bool). cond b (shares cell) (share_of_first (slot Row cell) (slot Col cell))) on))
         (lined_fact header ms slot flag shares sound stand cell inside on)
     | inr off ↦
-        subst (Fact header ms cell) (sym (ap (λ (b : Bool). cond b (shares cell) (first_share (slot Row cell) (slot Col cell))) off))
+        subst (Fact header ms cell) (sym (ap (λ (b : Bool). cond b (shares cell) (share_of_first (slot Row cell) (slot Col cell))) off))
         (elim (message_or_not (slot Row cell)) [
           | inl (kept, e) ↦
-              subst (λ (s : Option Proved). Fact header ms cell (first_share s (slot Col cell))) (sym e)
+              subst (λ (s : Option Proved). Fact header ms cell (share_of_first s (slot Col cell))) (sym e)
               (shown_fact header ms slot flag shares sound stand Row cell (kept_message kept).share off (record { kept = kept; held = e; share_is = refl }))
           | inr none ↦ elim (message_or_not (slot Col cell)) [
             | inl (kept, e) ↦
-                subst (λ (s : Option Proved). Fact header ms cell (first_share s (slot Col cell))) (sym none)
-                (subst (λ (s : Option Proved). Fact header ms cell (first_share None s)) (sym e)
+                subst (λ (s : Option Proved). Fact header ms cell (share_of_first s (slot Col cell))) (sym none)
+                (subst (λ (s : Option Proved). Fact header ms cell (share_of_first None s)) (sym e)
                 (shown_fact header ms slot flag shares sound stand Col cell (kept_message kept).share off (record { kept = kept; held = e; share_is = refl })))
             | inr empty ↦ elim (found_how slot flag cell found) [
               | inl on ↦ absurd (let e : true ≡ false = sym on ∙ off in cc)

@@ -23,7 +23,7 @@ use Rattle.repair_queue.specs.declared.marks.Marks.{Marks}
 use Rattle.repair_queue.specs.Slots.{IsFlagged}
 use Rattle.repair_queue.specs.Lines.{AreFacts}
 use Rattle.repair_queue.specs.Counts.{count_of, pending}
-use Rattle.repair_queue.specs.Boards.{mark_of, given_of, decided_of, share_of, is_lined, AreLeavesOf, IsGood, HoldsFor}
+use Rattle.repair_queue.specs.Boards.{mark_of, given_of, decided_of, shared_of, is_lined, AreLeavesOf, IsGood, HoldsFor}
 use Rattle.repair_queue.specs.Keeping.{IsAlikeAll, IsCountedIn, AreWrittenLeaves}
 use Rattle.repair_queue.proofs.Lines.LinedLemmas.{lined_else}
 use Rattle.repair_queue.proofs.Counting.CountedLemmas.{kept_counted, kept_waiting}
@@ -38,7 +38,7 @@ pub record IsLineKeptOn (header : Roots) (b : Board) (axis : Axis) (i : ℕ) (li
   pub within : i < 2 * header.k
   pub off : decided_of b axis i ≡ false
   pub fits : IsLineOf header axis i line
-  pub alike : IsAlikeAll header.k (given_of b) (decided_of b) (share_of b) axis i line
+  pub alike : IsAlikeAll header.k (given_of b) (decided_of b) (shared_of b) axis i line
   pub counts_width : counts.k ≡ b.counts.k
   pub counted : IsCountedIn b.counts.k (given_of b) (decided_of b) axis i (count_of b.counts) (count_of counts) (pending b.counts) (pending counts)
   pub grid_width : grid.k ≡ b.grid.k
@@ -60,7 +60,7 @@ module _ (header : Roots) (b : Board) (axis : Axis) (i : ℕ) (line : List Share
   after_width : header.k ≡ grid.k
   after_width = x.good.width ∙ sym x.grid_width
 
-  after_shares : IsWrittenOn header.k (share_of b) (share_of kept_board) axis i line
+  after_shares : IsWrittenOn header.k (shared_of b) (shared_of kept_board) axis i line
   after_shares = record {
     here = λ pos below.
         ap (λ (k : ℕ). share_at (2 * k) grid.shares (cell_on axis i pos)) x.grid_width
@@ -71,7 +71,7 @@ module _ (header : Roots) (b : Board) (axis : Axis) (i : ℕ) (line : List Share
         ∙ x.others cell (subst (λ (k : ℕ). is_in_square k cell ≡ true) x.good.width inside) apart;
   }
 
-  keeping : IsKeeping header (given_of b) (decided_of b) (mark_of marks) (share_of b) (share_of kept_board) axis i line
+  keeping : IsKeeping header (given_of b) (decided_of b) (mark_of marks) (shared_of b) (shared_of kept_board) axis i line
   keeping = record {
     within = x.within;
     sound = x.good.sound;
@@ -93,7 +93,7 @@ module _ (header : Roots) (b : Board) (axis : Axis) (i : ℕ) (line : List Share
         let below : pos < 2 * header.k = position-lt header.k axis cell inside in
         let own : cell ≡ cell_on axis i pos = at_own axis i cell e in
         let share : share_at (2 * header.k) grid.shares cell ≡ entry line pos =
-        ap (λ (k : ℕ). share_at (2 * k) grid.shares cell) after_width ∙ written_here header (given_of b) (decided_of b) (mark_of marks) (share_of b) (share_of kept_board) axis i line keeping cell inside e in
+        ap (λ (k : ℕ). share_at (2 * k) grid.shares cell) after_width ∙ written_here header (given_of b) (decided_of b) (mark_of marks) (shared_of b) (shared_of kept_board) axis i line keeping cell inside e in
         ap (λ (c : Cell). get_or leaves.items (c.row * (2 * header.k) + c.col) no_digest) own ∙ x.digests.here pos below
         ∙ leaf_at header.k axis i line pos x.fits.codeword.count below
         ∙ ap (λ (c : Cell). leaf_digest (leaf_namespace header.k c (entry line pos)) (entry line pos)) (sym own)
@@ -102,7 +102,7 @@ module _ (header : Roots) (b : Board) (axis : Axis) (i : ℕ) (line : List Share
         let was : is_lined (decided_of b) cell ≡ true = sym (lined_else (decided_of b) (mark_of marks) axis i x.flagged cell apart) ∙ on in
         let share : share_at (2 * header.k) grid.shares cell ≡ share_at (2 * header.k) b.grid.shares cell =
         ap (λ (k : ℕ). share_at (2 * k) grid.shares cell) after_width
-        ∙ still_lined header (given_of b) (decided_of b) (mark_of marks) (share_of b) (share_of kept_board) axis i line keeping cell inside was
+        ∙ still_lined header (given_of b) (decided_of b) (mark_of marks) (shared_of b) (shared_of kept_board) axis i line keeping cell inside was
         ∙ ap (λ (k : ℕ). share_at (2 * k) b.grid.shares cell) (sym x.good.width) in
         x.digests.elsewhere cell inside apart ∙ x.good.leaves cell inside was
         ∙ sym (leaf_same header.k grid.shares cell (share_at (2 * header.k) b.grid.shares cell) share)
@@ -125,7 +125,7 @@ module _ (header : Roots) (b : Board) (axis : Axis) (i : ℕ) (line : List Share
       counts_width = x.counts_width ∙ x.good.parts.counts_width ∙ sym x.grid_width;
       digests = x.digest_count ∙ x.good.parts.digests ∙ ap (λ (k : ℕ). 2 * k * (2 * k)) (sym x.grid_width);
     };
-    sound = keeping_sound header (given_of b) (decided_of b) (mark_of marks) (share_of b) (share_of kept_board) axis i line keeping;
+    sound = keeping_sound header (given_of b) (decided_of b) (mark_of marks) (shared_of b) (shared_of kept_board) axis i line keeping;
     leaves = after_leaves;
     counted = kept_counted header.k (given_of b) (decided_of b) (mark_of marks) axis i x.flagged x.within (count_of b.counts) (count_of counts)
         (pending b.counts) (pending counts) counted_here x.good.counted;
@@ -136,7 +136,7 @@ module _ (header : Roots) (b : Board) (axis : Axis) (i : ℕ) (line : List Share
   -- and stands for the same samples
   pub kept_stands : (ms : List Message) → AreFacts header ms axis i line → HoldsFor header ms b → HoldsFor header ms kept_board
   kept_stands ms facts stand =
-      keeping_stands header (given_of b) (decided_of b) (mark_of marks) (share_of b) (share_of kept_board) axis i line keeping ms stand facts
+      keeping_stands header (given_of b) (decided_of b) (mark_of marks) (shared_of b) (shared_of kept_board) axis i line keeping ms stand facts
 
 -- digests that were written, under other names
 pub written_as : (k n : ℕ) (old before new after : List Digest) (axis : Axis) (i : ℕ) (digests leaves : List Digest) → k ≡ n → old ≡ before → new ≡ after → digests ≡ leaves

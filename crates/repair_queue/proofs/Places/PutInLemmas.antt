@@ -8,7 +8,7 @@ use Rattle.namespace_id.proofs.WidthLemmas.{is_width-pos}
 use Rattle.axis_roots.specs.declared.message.proved.Proved.{Proved}
 use Rattle.axis_roots.specs.Proved.{kept_message}
 use Rattle.repair_queue.specs.Slots.{Kept, IsPut}
-use Rattle.repair_queue.specs.Places.{place_of, IsPlaced}
+use Rattle.repair_queue.specs.Places.{cell_place, IsPlaced}
 use Rattle.repair_queue.specs.Pools.{PoolParts, slots_by, slot_in, samples_of_row, samples_of_all, AreFree, IsStored, AreAtHome, IsPool, HasPlace, IsRoomy}
 use Rattle.repair_queue.proofs.Places.PlaceLemmas.{same_slot}
 use Rattle.repair_queue.proofs.Places.PutLemmas.{put_cases}
@@ -19,7 +19,7 @@ all_few : (k : ℕ) (slot : Kept) → 0 < k → ((row : ℕ) → row < 2 * k →
 all_few k slot some few =
     let all : samples_of_all k slot + 2 * k ≤ 2 * k * (2 * k) = sum_below-lt (samples_of_row k slot) (2 * k) (2 * k) few in omega arith
 
-pub room_left : (p : PoolParts) (room : ℕ) → IsPool p.places.k (place_of p.places) p.given p.free room → IsRoomy p → HasPlace p
+pub room_left : (p : PoolParts) (room : ℕ) → IsPool p.places.k (cell_place p.places) p.given p.free room → IsRoomy p → HasPlace p
 room_left p room pool roomy none = omega (arith, none, all_few p.places.k (slot_in p) (is_width-pos p.places.k pool.width) pool.few, pool.used, roomy)
 
 -- the list of samples may have such capacity under another width that is the same

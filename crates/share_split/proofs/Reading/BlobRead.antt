@@ -10,7 +10,7 @@ use Rattle.namespace_id.specs.declared.namespaces.Namespace.{Namespace}
 use Rattle.namespace_id.specs.declared.shares.Share.{Share}
 use Rattle.share_split.specs.declared.joining.JoinError.{JoinError}
 use Rattle.share_split.specs.Blobs.{NamedBytes, max_sequence_length, version_of, first_blob_content, later_shares, share_count}
-use Rattle.share_split.specs.Walks.{Sequence, missing, is_complete, with_blob, blob_refusal, taken_by, blobs_from}
+use Rattle.share_split.specs.Walks.{Sequence, missing, is_complete, with_blob, blob_share_refusal, sequence_after, blobs_from}
 use Rattle.share_split.specs.Joined.{Piece, piece_shares, piece_blobs, IsPiece, padding_of}
 use Rattle.share_split.specs.Joined.Piece.{padding, blob}
 use Rattle.share_split.proofs.Reading.Fields.{opening, opening_is_first}
@@ -36,7 +36,7 @@ open_on i s shares lt =
     ap (λ (b : Bool). cond b (with_blob s (blobs_from i None shares)) (blobs_from i (Some s) shares)) no
 
 -- a share whose checks pass
-on : (i : ℕ) (so_far : Option Sequence) (share : Share) (shares : List Share) (t : Sequence) → blob_refusal i so_far share ≡ None → taken_by Blobs i so_far share ≡ t
+on : (i : ℕ) (so_far : Option Sequence) (share : Share) (shares : List Share) (t : Sequence) → blob_share_refusal i so_far share ≡ None → sequence_after Blobs i so_far share ≡ t
     → blobs_from i so_far (share ∷ shares) ≡ taken_on (suc i) t shares
 on i so_far share shares t passes taken =
     blobs_from-cons i so_far share shares

@@ -7,7 +7,7 @@ use Rattle.share_split.specs.declared.joining.JoinError.{JoinError}
 use Rattle.share_split.specs.declared.joining.JoinError.TheVariants.{Short, NoMemory}
 use Rattle.share_split.specs.declared.walking.Form.TheVariants.{Blobs}
 use Rattle.share_split.specs.Blobs.{NamedBytes}
-use Rattle.share_split.specs.Walks.{Sequence, is_complete, with_blob, blob_refusal, taken_by, blobs_from}
+use Rattle.share_split.specs.Walks.{Sequence, is_complete, with_blob, blob_share_refusal, sequence_after, blobs_from}
 use Rattle.share_split.specs.Steps.{open_after, blobs_after, behind_blobs}
 
 -- what shares are read as
@@ -17,13 +17,13 @@ Read = Result (List NamedBytes) JoinError
 -- what follows a share whose checks pass
 abbrev pub blobs_on : ℕ → Option Sequence → Share → List Share → Read
 blobs_on i so_far share shares =
-    cond (is_complete (taken_by Blobs i so_far share))
-    (with_blob (taken_by Blobs i so_far share) (blobs_from (suc i) None shares))
-    (blobs_from (suc i) (Some (taken_by Blobs i so_far share)) shares)
+    cond (is_complete (sequence_after Blobs i so_far share))
+    (with_blob (sequence_after Blobs i so_far share) (blobs_from (suc i) None shares))
+    (blobs_from (suc i) (Some (sequence_after Blobs i so_far share)) shares)
 
 -- the next share is checked first
 pub blobs_from-cons : (i : ℕ) (so_far : Option Sequence) (share : Share) (shares : List Share)
-    → blobs_from i so_far (share ∷ shares) ≡ option_map_or Err (blob_refusal i so_far share) (blobs_on i so_far share shares)
+    → blobs_from i so_far (share ∷ shares) ≡ option_map_or Err (blob_share_refusal i so_far share) (blobs_on i so_far share shares)
 unfolding blobs_from
 blobs_from-cons i None share shares = refl
 blobs_from-cons i (Some s) share shares = refl
@@ -59,7 +59,7 @@ closed_on false s blobs next = ap (λ (l : List NamedBytes). behind_blobs l (nex
 -- one share more was read
 pub blobs_more : (i : ℕ) (shares : List Share) (none : Share) (so_far left : Option Sequence) (sequence : Sequence) (blobs after : List NamedBytes) (whole : Read)
     → i < length shares
-    → blob_refusal i so_far (get_or shares i none) ≡ None → sequence ≡ taken_by Blobs i so_far (get_or shares i none)
+    → blob_share_refusal i so_far (get_or shares i none) ≡ None → sequence ≡ sequence_after Blobs i so_far (get_or shares i none)
     → left ≡ open_after sequence → after ≡ blobs ++ blobs_after sequence
     → behind_blobs blobs (blobs_from i so_far (drop i shares)) ≡ whole
     → behind_blobs after (blobs_from (i + 1) left (drop (i + 1) shares)) ≡ whole
@@ -82,7 +82,7 @@ blobs_more i shares none so_far left sequence blobs after whole lt passed taken 
 
 -- a check of a share failed, or memory ran out
 pub blobs_stop : (i : ℕ) (shares : List Share) (none : Share) (so_far : Option Sequence) (blobs : List NamedBytes) (whole : Read) (error : JoinError)
-    → i < length shares → (error ≡ NoMemory) ⊎ (blob_refusal i so_far (get_or shares i none) ≡ Some error)
+    → i < length shares → (error ≡ NoMemory) ⊎ (blob_share_refusal i so_far (get_or shares i none) ≡ Some error)
     → behind_blobs blobs (blobs_from i so_far (drop i shares)) ≡ whole
     → (error ≡ NoMemory) ⊎ (whole ≡ Err error)
 blobs_stop i shares none so_far blobs whole error lt (inl full) before = inl full

@@ -8,7 +8,7 @@ use Rattle.namespace_id.specs.declared.namespaces.Namespace.{Namespace}
 use Rattle.namespace_id.specs.declared.shares.Share.{Share}
 use Rattle.share_split.specs.Blobs.{filled, sequence_share}
 use Rattle.share_split.specs.Units.{first_compact_share, later_compact_share}
-use Rattle.share_split.specs.Walks.{version_in, is_start, size_in, fields_in, signer_in, reserved_in}
+use Rattle.share_split.specs.Walks.{version_in, is_start, size_in, share_fields, signer_in, reserved_in}
 use Rattle.share_split.proofs.Reading.Cuts.{cut, four, parts, fours, stated, info_is, fields_first, fields_later}
 use Rattle.share_split.proofs.Reading.Signers.{signer_among, unsigned}
 use Rattle.share_split.specs.declared.walking.Form.TheVariants.{Units}
@@ -26,7 +26,7 @@ IsCompactLater name reserved text share = IsLater Units name 0 text share × (re
 -- a compact share has no signer
 pub unsigned_compact : (share : Share) → version_in share ≡ 0 → signer_in share ≡ None
 unsigned_compact share version =
-    ap (λ (b : Bool). signer_among b (fields_in share)) (unsigned (is_start share) (version_in share) (size_in share) version)
+    ap (λ (b : Bool). signer_among b (share_fields share)) (unsigned (is_start share) (version_in share) (size_in share) version)
 
 -- the first compact share has its fields
 pub first_compact_is : (name : Namespace) (size reserved : ℕ) (text : List ℕ) → length name.0 ≡ 29 → size < 2 ^ 32 → reserved < 2 ^ 32
@@ -41,7 +41,7 @@ first_compact_is name size reserved text len few small =
     let f = four share.0 number (place ++ content) refl c.behind in
     let version : version_in share ≡ 0 = ap (λ (b : ℕ). b / 2) c.byte_is in
     let start : is_start share ≡ true = ap (λ (b : ℕ). eqb (b % 2) 1) c.byte_is in
-    let fields : fields_in share ≡ place ++ content = fields_first share start ∙ f.1 in (
+    let fields : share_fields share ≡ place ++ content = fields_first share start ∙ f.1 in (
       record {
         version_is = version;
         start_is = start;
@@ -63,7 +63,7 @@ later_compact_is name reserved text len small =
     let share : Share = later_compact_share name reserved (take 478 text) in
     let c = cut share.0 name.0 (place ++ content) 0 len refl in
     let later : is_start share ≡ false = ap (λ (b : ℕ). eqb (b % 2) 1) c.byte_is in
-    let fields : fields_in share ≡ place ++ content = fields_later share later ∙ c.behind in (
+    let fields : share_fields share ≡ place ++ content = fields_later share later ∙ c.behind in (
       record {
         version_is = ap (λ (b : ℕ). b / 2) c.byte_is;
         start_is = later;
@@ -83,7 +83,7 @@ is_first_compact name size reserved text share whole is =
     let number : List ℕ = to_be_bytes w32 size in
     let place : List ℕ = to_be_bytes w32 reserved in
     let content : List ℕ = filled 474 (take 474 text) in
-    let fields : fields_in share ≡ drop 34 bytes = fields_first share first.start_is in
+    let fields : share_fields share ≡ drop 34 bytes = fields_first share first.start_is in
     let number_is : take 4 (drop 30 bytes) ≡ number = stated bytes 30 (omega (arith, whole.size_is)) whole.fits ∙ ap (to_be_bytes w32) first.size_is in
     let place_is : take 4 (drop 34 bytes) ≡ place =
     stated bytes 34 (omega (arith, whole.size_is)) whole.fits ∙ ap (to_be_bytes w32) (sym (ap (λ (l : List ℕ). from_be_bytes w32 (take 4 l)) fields) ∙ is.1) in
@@ -102,7 +102,7 @@ is_later_compact name reserved text share whole is =
     let bytes : List ℕ = share.0 in
     let place : List ℕ = to_be_bytes w32 reserved in
     let content : List ℕ = filled 478 (take 478 text) in
-    let fields : fields_in share ≡ drop 30 bytes = fields_later share later.start_is in
+    let fields : share_fields share ≡ drop 30 bytes = fields_later share later.start_is in
     let place_is : take 4 (drop 30 bytes) ≡ place =
     stated bytes 30 (omega (arith, whole.size_is)) whole.fits ∙ ap (to_be_bytes w32) (sym (ap (λ (l : List ℕ). from_be_bytes w32 (take 4 l)) fields) ∙ is.1) in
     let content_is : drop 34 bytes ≡ content = sym (drop-drop 4 30 bytes) ∙ sym (ap (drop 4) fields) ∙ later.content_is in

@@ -9,7 +9,7 @@ use Rattle.namespace_id.specs.Shares.{IsShare}
 use Rattle.namespace_id.specs.declared.shares.Share.{Share}
 use Rattle.namespace_id.proofs.StringLemmas.{AreBytes-take, AreBytes-drop}
 use Rattle.share_split.specs.Blobs.{info}
-use Rattle.share_split.specs.Walks.{version_in, is_start, fields_in}
+use Rattle.share_split.specs.Walks.{version_in, is_start, share_fields}
 
 -- ---- what is read of a share that was written
 
@@ -71,13 +71,13 @@ pub info_is : (share : Share) (version : ℕ) (start : Bool) → version_in shar
 info_is share version start half odd = info_back (slice_index share.0 29) version start half odd
 
 -- the fields begin behind the length in a first share, and behind the info byte in a later one
-pub fields_first : (share : Share) → is_start share ≡ true → fields_in share ≡ drop 34 share.0
+pub fields_first : (share : Share) → is_start share ≡ true → share_fields share ≡ drop 34 share.0
 fields_first share start = ap (λ (b : Bool). drop (cond b 34 30) share.0) start
 
 -- the fields of a later share begin behind its info byte
-pub fields_later : (share : Share) → is_start share ≡ false → fields_in share ≡ drop 30 share.0
+pub fields_later : (share : Share) → is_start share ≡ false → share_fields share ≡ drop 30 share.0
 fields_later share later = ap (λ (b : Bool). drop (cond b 34 30) share.0) later
 
 -- those of a first share are as many as are left in it
-pub length-fields : (share : Share) → is_start share ≡ true → IsShare share → length (fields_in share) ≡ 478
+pub length-fields : (share : Share) → is_start share ≡ true → IsShare share → length (share_fields share) ≡ 478
 length-fields share start whole = omega (arith, ap length (fields_first share start), length-drop 34 share.0, whole.size_is)

@@ -12,7 +12,7 @@ use Rattle.namespace_id.specs.Names.{named_by}
 use Rattle.share_split.specs.declared.walking.Form.{Form}
 use Rattle.share_split.specs.declared.walking.Form.TheVariants.{Blobs, Units}
 use Rattle.share_split.specs.Blobs.{signer_size, info, filled, sequence_share, signer_bytes, first_blob_content, later_share}
-use Rattle.share_split.specs.Walks.{version_in, is_start, size_in, fields_in, is_signed, signer_in, bytes_before, content_in}
+use Rattle.share_split.specs.Walks.{version_in, is_start, size_in, share_fields, is_signed, signer_in, bytes_before, content_in}
 use Rattle.share_split.proofs.Reading.Cuts.{cut, four, parts, fours, stated, version_of_info, start_of_info, info_is, fields_first, fields_later, length-fields}
 use Rattle.share_split.proofs.Reading.Signers.{IsLabel, is_signed_by, signer_among, signer_again, signer_parts, length-room}
 
@@ -45,7 +45,7 @@ pub record IsLater (form : Form) (name : Namespace) (version : ℕ) (text : List
 -- a later share has no signer
 pub unsigned_later : (share : Share) → is_start share ≡ false → signer_in share ≡ None
 unsigned_later share later =
-    ap (λ (b : Bool). signer_among (is_signed_by b (version_in share) (size_in share)) (fields_in share)) later
+    ap (λ (b : Bool). signer_among (is_signed_by b (version_in share) (size_in share)) (share_fields share)) later
 
 -- the first share of a sequence with this version and signer
 abbrev pub opening : Namespace → ℕ → Option (List ℕ) → ℕ → List ℕ → Share
@@ -81,7 +81,7 @@ opening_is_first name version signer size text len few label =
     let version_is : version_in share ≡ version = ap (λ (b : ℕ). b / 2) c.byte_is ∙ version_of_info version true in
     let start : is_start share ≡ true = ap (λ (b : ℕ). eqb (b % 2) 1) c.byte_is ∙ start_of_info version true in
     let size_is : size_in share ≡ size = ap (from_be_bytes w32) f.0 ∙ from_be_bytes-to_be_bytes_4 size few in
-    let fields : fields_in share ≡ bytes ++ content = fields_first share start ∙ f.1 in
+    let fields : share_fields share ≡ bytes ++ content = fields_first share start ∙ f.1 in
     let signed : is_signed share ≡ is_some signer =
     ap (λ (b : Bool). is_signed_by b (version_in share) (size_in share)) start ∙ ap₂ (is_signed_by true) version_is size_is ∙ label.signed in
     let signer_is : signer_in share ≡ signer = ap₂ signer_among signed fields ∙ signer_again signer content label.whole in
@@ -120,7 +120,7 @@ is_opening name version signer size text share whole signed first =
     let number : take 4 (drop 30 bytes) ≡ to_be_bytes w32 size = stated bytes 30 (omega (arith, whole.size_is)) whole.fits ∙ ap (to_be_bytes w32) first.size_is in
     let behind : drop 34 bytes ≡ signer_bytes signer ++ content =
     sym (fields_first share first.start_is)
-    ∙ sym (signer_parts (is_signed share) (fields_in share) (length-fields share first.start_is whole))
+    ∙ sym (signer_parts (is_signed share) (share_fields share) (length-fields share first.start_is whole))
     ∙ ap₂ (λ (o : Option (List ℕ)) (l : List ℕ). signer_bytes o ++ l) first.signer_is first.content_is in
     ap share_of
     (parts bytes whole.size_is
@@ -137,7 +137,7 @@ is_later_share name version text share whole later =
     let content : List ℕ = filled 482 (take 482 text) in
     let behind : drop 30 bytes ≡ content =
     sym (fields_later share later.start_is)
-    ∙ sym (ap (λ (o : Option (List ℕ)). drop (length (signer_bytes o)) (fields_in share)) (unsigned_later share later.start_is))
+    ∙ sym (ap (λ (o : Option (List ℕ)). drop (length (signer_bytes o)) (share_fields share)) (unsigned_later share later.start_is))
     ∙ later.content_is in
     ap share_of
     (parts bytes whole.size_is
@@ -153,7 +153,7 @@ fields_place false = omega arith
 pub bytes_before-signed : (form : Form) (share : Share) → form ≡ Blobs → is_signed share ≡ true → length share.0 ≡ 512 → 20 ≡ bytes_before form share
 bytes_before-signed form share blobs signed len =
     let place : ℕ = cond (is_start share) 34 30 in
-    let all : length (take 20 (fields_in share)) ≡ 20 =
-    omega (arith, length-take 20 (fields_in share), length-drop place share.0, fields_place (is_start share), len) in
+    let all : length (take 20 (share_fields share)) ≡ 20 =
+    omega (arith, length-take 20 (share_fields share), length-drop place share.0, fields_place (is_start share), len) in
     sym (ap (λ (f : Form). bytes_before f share) blobs
-    ∙ ap (λ (b : Bool). length (signer_bytes (signer_among b (fields_in share)))) signed ∙ all)
+    ∙ ap (λ (b : Bool). length (signer_bytes (signer_among b (share_fields share)))) signed ∙ all)

@@ -4,7 +4,7 @@ use Rattle.std.specs.Option.{option_map_or}
 use Rattle.namespace_id.specs.Shares.{AreShares}
 use Rattle.namespace_id.specs.declared.shares.Share.{Share}
 use Rattle.share_split.specs.Blobs.{NamedBytes}
-use Rattle.share_split.specs.Walks.{blobs_from, blobs_of, Sequence, sequence_from, units_from, bad_reserved, reserved_units, units_in, units_of}
+use Rattle.share_split.specs.Walks.{blobs_from, blobs_joined, Sequence, sequence_from, units_from, bad_reserved, reserved_units, units_in, units_of}
 use Rattle.share_split.specs.declared.joining.JoinError.TheVariants.{BadReserved}
 use Rattle.share_split.specs.Units.{starts_from}
 use Rattle.share_split.specs.Steps.{units_placed}
@@ -16,11 +16,11 @@ use Rattle.share_split.proofs.Reading.UnitRead.{compact_read}
 use Rattle.share_split.proofs.Reading.UnitTold.{units_told}
 
 -- shares of blobs are read as these
-blobs_read : (shares : List Share) (blobs : List NamedBytes) → AreBlobs shares blobs → blobs_of shares ≡ Ok blobs
+blobs_read : (shares : List Share) (blobs : List NamedBytes) → AreBlobs shares blobs → blobs_joined shares ≡ Ok blobs
 blobs_read shares blobs are = ap (blobs_from 0 None) are.parts ∙ pieces_read 0 are.pieces are.are_pieces ∙ ap Ok (sym are.shown)
 
 -- shares are read as blobs exactly where they are their shares
-pub blobs_law : (shares : List Share) (blobs : List NamedBytes) → AreShares shares → (blobs_of shares ≡ Ok blobs) ↔ AreBlobs shares blobs
+pub blobs_law : (shares : List Share) (blobs : List NamedBytes) → AreShares shares → (blobs_joined shares ≡ Ok blobs) ↔ AreBlobs shares blobs
 blobs_law shares blobs wholes = (λ e. blobs_told shares 0 None blobs wholes tt e, λ are. blobs_read shares blobs are)
 
 -- shares of units are read as these

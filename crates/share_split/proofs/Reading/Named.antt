@@ -7,7 +7,7 @@ use Rattle.share_split.specs.declared.joining.JoinError.{JoinError}
 use Rattle.share_split.specs.declared.joining.JoinError.TheVariants.{Short}
 use Rattle.share_split.specs.declared.walking.Form.{Form}
 use Rattle.share_split.specs.declared.walking.Form.TheVariants.{Blobs, Units}
-use Rattle.share_split.specs.Walks.{Sequence, is_complete, with_blob, blob_refusal, unit_refusal, taken_by, blobs_from, sequence_from}
+use Rattle.share_split.specs.Walks.{Sequence, is_complete, with_blob, blob_share_refusal, unit_refusal, sequence_after, blobs_from, sequence_from}
 use Rattle.share_split.specs.Steps.{open_after}
 use Rattle.share_split.specs.JoinRefusals.{refusal_of, AreRead, start, next, IsRefusedFor}
 use Rattle.share_split.proofs.Reading.BlobWalk.{Read, blobs_on, blobs_from-cons, blobs_from-nil, blobs_from-open}
@@ -81,15 +81,15 @@ blobs_named [] before (Some s) why are_read is_open is =
     at_end Blobs before s why are_read is_open cc
 blobs_named (share ∷ shares) before so_far why are_read is_open is =
     let n : ℕ = length before in
-    let t : Sequence = taken_by Blobs n so_far share in
+    let t : Sequence = sequence_after Blobs n so_far share in
     let more : List Share = before ++ share ∷ [] in
-    ⊎_elim (λ (refused : blob_refusal n so_far share ≡ Some why). here Blobs before so_far share shares why are_read refused)
-    (λ (on : (blob_refusal n so_far share ≡ None) × (blobs_on n so_far share shares ≡ Err why)).
+    ⊎_elim (λ (refused : blob_share_refusal n so_far share ≡ Some why). here Blobs before so_far share shares why are_read refused)
+    (λ (on : (blob_share_refusal n so_far share ≡ None) × (blobs_on n so_far share shares ≡ Err why)).
     parted Blobs before share shares why
     (blobs_named shares more (open_after t) why (next before so_far share are_read on.0) (left_open (is_complete t) t refl)
     (ap (λ (k : ℕ). blobs_from k (open_after t) shares) (length-more before share)
     ∙ blobs_after_one (is_complete t) t (λ o. blobs_from (suc n) o shares) why on.1)))
-    (refused_or (blob_refusal n so_far share) (blobs_on n so_far share shares) why (sym (blobs_from-cons n so_far share shares) ∙ is))
+    (refused_or (blob_share_refusal n so_far share) (blobs_on n so_far share shares) why (sym (blobs_from-cons n so_far share shares) ∙ is))
 
 -- what follows shares that were read is refused as it is behind them
 blobs_behind : (before : List Share) (so_far : Option Sequence) (shares : List Share) (why : JoinError) → AreRead Blobs before so_far
@@ -97,7 +97,7 @@ blobs_behind : (before : List Share) (so_far : Option Sequence) (shares : List S
 blobs_behind _ _ shares why start is = is
 blobs_behind _ _ shares why (next before so_far share are_read passed) is =
     let n : ℕ = length before in
-    let t : Sequence = taken_by Blobs n so_far share in
+    let t : Sequence = sequence_after Blobs n so_far share in
     let on : blobs_on n so_far share shares ≡ Err why =
     blobs_before_one (is_complete t) t (λ o. blobs_from (suc n) o shares) why
     (sym (ap (λ (k : ℕ). blobs_from k (open_after t) shares) (length-more before share)) ∙ is) in
@@ -138,7 +138,7 @@ units_named [] before None why are_read is = let nil = sequence_from-none (lengt
 units_named [] before (Some s) why are_read is = units_end (is_complete s) before s why refl are_read is
 units_named (share ∷ shares) before so_far why are_read is =
     let n : ℕ = length before in
-    let t : Sequence = taken_by Units n so_far share in
+    let t : Sequence = sequence_after Units n so_far share in
     ⊎_elim (λ (refused : unit_refusal n so_far share ≡ Some why). here Units before so_far share shares why are_read refused)
     (λ (on : (unit_refusal n so_far share ≡ None) × (sequence_from (suc n) (Some t) shares ≡ Err why)).
     parted Units before share shares why
@@ -152,7 +152,7 @@ units_behind : (before : List Share) (so_far : Option Sequence) (shares : List S
 units_behind _ _ shares why start is = is
 units_behind _ _ shares why (next before so_far share are_read passed) is =
     let n : ℕ = length before in
-    let t : Sequence = taken_by Units n so_far share in
+    let t : Sequence = sequence_after Units n so_far share in
     ap (sequence_from 0 None) (append_assoc before (share ∷ []) shares)
     ∙ units_behind before so_far (share ∷ shares) why are_read
     (sequence_from-cons n so_far share shares
@@ -169,7 +169,7 @@ units_refused shares why = (units_named shares [] None why start, refused_is)
         ap (sequence_from 0 None) one.parts
         ∙ units_behind one.before one.so_far (one.share ∷ one.after) why one.are_read
         (sequence_from-cons n one.so_far one.share one.after
-        ∙ ap (λ (o : Option JoinError). option_map_or Err o (sequence_from (suc n) (Some (taken_by Units n one.so_far one.share)) one.after)) one.refused)
+        ∙ ap (λ (o : Option JoinError). option_map_or Err o (sequence_from (suc n) (Some (sequence_after Units n one.so_far one.share)) one.after)) one.refused)
     refused_is (inr cut) =
         ap (sequence_from 0 None) (sym (append-nil shares))
         ∙ units_behind shares (Some cut.sequence) [] why cut.are_read

@@ -7,7 +7,7 @@ use Rattle.namespace_id.specs.Shares.{IsShare, name_in}
 use Rattle.namespace_id.specs.declared.shares.Share.{Share}
 use Rattle.namespace_id.proofs.StringLemmas.{AreBytes-take, AreBytes-drop}
 use Rattle.share_split.specs.declared.joining.JoinError.TheVariants.{NoStart, Short, BadVersion, NonZeroFill, MixedNamespace}
-use Rattle.share_split.specs.Walks.{version_in, is_start, size_in, fields_in, is_signed, signer_in, bytes_before, content_in, Sequence, missing, is_version, is_filled, first_refusal, later_refusal}
+use Rattle.share_split.specs.Walks.{version_in, is_start, size_in, share_fields, is_signed, signer_in, bytes_before, content_in, Sequence, missing, is_version, is_filled, first_refusal, later_refusal}
 use Rattle.share_split.proofs.Reading.Fill.{filled_back}
 use Rattle.share_split.proofs.Reading.Cuts.{fields_later, length-fields}
 use Rattle.share_split.proofs.Reading.Fields.{first_room, later_room, IsFirst, IsLater, unsigned_later}
@@ -38,20 +38,20 @@ fields-fit share b whole = AreBytes-drop (cond b 34 30) share.0 whole.fits
 -- a part of its content is bytes
 pub part-fits : (form : Form) (m : ℕ) (share : Share) → IsShare share → AreBytes (take m (content_in form share))
 part-fits form m share whole =
-    AreBytes-take m (content_in form share) (AreBytes-drop (bytes_before form share) (fields_in share) (fields-fit share (is_start share) whole))
+    AreBytes-take m (content_in form share) (AreBytes-drop (bytes_before form share) (share_fields share) (fields-fit share (is_start share) whole))
 
 -- how much content a first share has
 length-first : (form : Form) (share : Share) → IsShare share → is_start share ≡ true → length (content_in form share) ≡ first_room form (signer_in share)
-length-first Blobs share whole start = length-content (is_signed share) (fields_in share) (length-fields share start whole)
-length-first Units share whole start = omega (arith, length-drop 4 (fields_in share), length-fields share start whole)
+length-first Blobs share whole start = length-content (is_signed share) (share_fields share) (length-fields share start whole)
+length-first Units share whole start = omega (arith, length-drop 4 (share_fields share), length-fields share start whole)
 
 -- how much content a later share has
 length-later : (form : Form) (share : Share) → IsShare share → is_start share ≡ false → length (content_in form share) ≡ later_room form
 length-later Blobs share whole later =
-    let fields : length (fields_in share) ≡ 482 = omega (arith, ap length (fields_later share later), length-drop 30 share.0, whole.size_is) in
-    ap (λ (o : Option (List ℕ)). length (drop (length (signer_bytes o)) (fields_in share))) (unsigned_later share later) ∙ fields
+    let fields : length (share_fields share) ≡ 482 = omega (arith, ap length (fields_later share later), length-drop 30 share.0, whole.size_is) in
+    ap (λ (o : Option (List ℕ)). length (drop (length (signer_bytes o)) (share_fields share))) (unsigned_later share later) ∙ fields
 length-later Units share whole later =
-    omega (arith, length-drop 4 (fields_in share), ap length (fields_later share later), length-drop 30 share.0, whole.size_is)
+    omega (arith, length-drop 4 (share_fields share), ap length (fields_later share later), length-drop 30 share.0, whole.size_is)
 
 -- what is known of a first share whose checks pass
 pub record IsBegun (form : Form) (share : Share) : Type 0 where
@@ -90,8 +90,8 @@ pub label_in : (share : Share) → IsShare share → IsBegun Blobs share → IsL
 label_in share whole begun =
     let signed : is_signed share ≡ is_signed_by true (version_in share) (size_in share) =
     ap (λ (b : Bool). is_signed_by b (version_in share) (size_in share)) begun.start in
-    subst (λ (b : Bool). IsLabel (version_in share) (signer_among b (fields_in share)) (size_in share)) (sym signed)
-    (label_told (version_in share) (size_in share) (fields_in share) (leb-true _ _ begun.version) (length-fields share begun.start whole)
+    subst (λ (b : Bool). IsLabel (version_in share) (signer_among b (share_fields share)) (size_in share)) (sym signed)
+    (label_told (version_in share) (size_in share) (share_fields share) (leb-true _ _ begun.version) (length-fields share begun.start whole)
     (fields-fit share (is_start share) whole))
 
 -- what is known of a later share whose checks pass

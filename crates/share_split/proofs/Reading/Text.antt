@@ -3,7 +3,7 @@ use Rattle.std.proofs.Common.{◌≡◌, ◌∙◌, ℕ, zero, suc, ◌+◌, ◌
 use Rattle.std.specs.Option.{option_map_or}
 use Rattle.namespace_id.proofs.StringLemmas.{drop_one}
 use Rattle.share_split.specs.Units.{unit_text, starts_from}
-use Rattle.share_split.specs.Walks.{unit_at, with_unit, units_from, share_with}
+use Rattle.share_split.specs.Walks.{text_unit, with_unit, units_from, share_with}
 use Rattle.share_split.specs.declared.joining.JoinError.TheVariants.{BadVarint}
 use Rattle.share_split.specs.Steps.{behind_units, units_placed}
 
@@ -19,14 +19,14 @@ units_skip (suc n) at (b ∷ bytes) =
     units_skip n (suc at) bytes ∙ ap (λ (k : ℕ). units_from 0 k (drop n bytes)) e
 
 -- the byte at the front decides
-pub units_here : (at : ℕ) (bytes : List ℕ) (o : Option (List ℕ × ℕ)) → 0 < length bytes → unit_at bytes ≡ o
+pub units_here : (at : ℕ) (bytes : List ℕ) (o : Option (List ℕ × ℕ)) → 0 < length bytes → text_unit bytes ≡ o
     → units_from 0 at bytes ≡ option_map_or (λ unit. with_unit unit.0 (units_from (unit.1 - 1) (suc at) (drop 1 bytes))) o (Err at)
 unfolding units_from
 units_here at [] o h e = absurd (omega arith)
 units_here at (b ∷ bytes) o h e = ap (λ (x : Option (List ℕ × ℕ)). option_map_or (λ unit. with_unit unit.0 (units_from (unit.1 - 1) (suc at) bytes)) x (Err at)) e
 
 -- a unit stands here, and then the others
-pub units_on : (at : ℕ) (bytes unit : List ℕ) (size : ℕ) → unit_at bytes ≡ Some (unit, size) → 0 < size → 0 < length bytes
+pub units_on : (at : ℕ) (bytes unit : List ℕ) (size : ℕ) → text_unit bytes ≡ Some (unit, size) → 0 < size → 0 < length bytes
     → units_from 0 at bytes ≡ with_unit unit (units_from 0 (at + size) (drop size bytes))
 units_on at bytes unit size e some h =
     let next : suc at + (size - 1) ≡ at + size = omega arith in
@@ -34,7 +34,7 @@ units_on at bytes unit size e some h =
     ∙ ap (with_unit unit) (units_skip (size - 1) (suc at) (drop 1 bytes) ∙ ap₂ (λ (k : ℕ) (l : List ℕ). units_from 0 k l) next (drop_one size bytes some h))
 
 -- none stands here
-pub units_stop : (at : ℕ) (bytes : List ℕ) → unit_at bytes ≡ None → 0 < length bytes → units_from 0 at bytes ≡ Err at
+pub units_stop : (at : ℕ) (bytes : List ℕ) → text_unit bytes ≡ None → 0 < length bytes → units_from 0 at bytes ≡ Err at
 units_stop at bytes e h = units_here at bytes None h e
 
 -- no byte is left
@@ -56,7 +56,7 @@ with_unit-behind units unit (Ok more) = ap Ok (sym (append_assoc units (unit ∷
 
 -- one unit more was read
 pub text_more : (at : ℕ) (bytes unit after : List ℕ) (size : ℕ) (units new : List (List ℕ)) (whole : Units)
-    → unit_at bytes ≡ Some (unit, size) → 0 < size → 0 < length bytes → after ≡ drop size bytes → new ≡ units ++ unit ∷ []
+    → text_unit bytes ≡ Some (unit, size) → 0 < size → 0 < length bytes → after ≡ drop size bytes → new ≡ units ++ unit ∷ []
     → behind_units units (units_from 0 at bytes) ≡ whole → behind_units new (units_from 0 (at + size) after) ≡ whole
 text_more at bytes unit after size units new whole e some h after_is new_is before =
     ap₂ (λ (n : List (List ℕ)) (l : List ℕ). behind_units n (units_from 0 (at + size) l)) new_is after_is
@@ -65,7 +65,7 @@ text_more at bytes unit after size units new whole e some h after_is new_is befo
     ∙ before
 
 -- no unit stands here
-pub text_stop : (at share : ℕ) (bytes : List ℕ) (units : List (List ℕ)) (whole : Units) → unit_at bytes ≡ None → 0 < length bytes → share ≡ share_with at
+pub text_stop : (at share : ℕ) (bytes : List ℕ) (units : List (List ℕ)) (whole : Units) → text_unit bytes ≡ None → 0 < length bytes → share ≡ share_with at
     → behind_units units (units_from 0 at bytes) ≡ whole → units_placed whole ≡ Err (BadVarint share)
 text_stop at share bytes units whole e h share_is before =
     sym (ap units_placed before) ∙ ap (λ (r : Units). units_placed (behind_units units r)) (units_stop at bytes e h) ∙ ap (λ (i : ℕ). Err (BadVarint i)) (sym share_is)

@@ -7,7 +7,7 @@ use Rattle.namespace_id.specs.Bytes.{AreBytes}
 use Rattle.namespace_id.proofs.StringLemmas.{AreBytes-drop}
 use Rattle.proto_fields.specs.Varints.{varint}
 use Rattle.share_split.specs.Units.{unit_text, units_text}
-use Rattle.share_split.specs.Walks.{unit_at, with_unit, units_from}
+use Rattle.share_split.specs.Walks.{text_unit, with_unit, units_from}
 use Rattle.share_split.proofs.Reading.Unit.{read_unit, unit_back, unit_again}
 use Rattle.share_split.proofs.Reading.Text.{Units, units_here, units_on, units_end}
 
@@ -19,7 +19,7 @@ units_again at (unit ∷ units) few =
     let rest : List ℕ = units_text units in
     let all : length (unit_text unit ++ rest) ≡ size + length rest = length-append (unit_text unit) rest in
     let own : size ≡ length (varint (length unit)) + length unit = length-append (varint (length unit)) unit in
-    let read : unit_at (unit_text unit ++ rest) ≡ Some (unit, size) = unit_again unit rest (omega arith) in
+    let read : text_unit (unit_text unit ++ rest) ≡ Some (unit, size) = unit_again unit rest (omega arith) in
     let r = read_unit (unit_text unit ++ rest) unit size read in
     units_on at (unit_text unit ++ rest) unit size read (omega (arith, r.size_is, r.shorter)) (omega (arith, r.shorter))
     ∙ ap (λ (l : List ℕ). with_unit unit (units_from 0 (at + size) l)) (drop_at (unit_text unit) rest size refl)
@@ -47,8 +47,8 @@ units_back n at [] units le fits e =
 units_back zero at (b ∷ bytes) units le fits e = absurd (omega arith)
 units_back (suc n) at (b ∷ bytes) units le fits e =
     let text : List ℕ = b ∷ bytes in
-    let here = units_here at text (unit_at text) (omega arith) refl in
-    let x = found (λ unit. with_unit unit.0 (units_from (unit.1 - 1) (suc at) (drop 1 text))) (unit_at text) at units (sym here ∙ e) in
+    let here = units_here at text (text_unit text) (omega arith) refl in
+    let x = found (λ unit. with_unit unit.0 (units_from (unit.1 - 1) (suc at) (drop 1 text))) (text_unit text) at units (sym here ∙ e) in
     let u = unit_back text x.0.0 x.0.1 fits x.1 in
     let behind : List ℕ = drop x.0.1 text in
     let o = others x.0.0 (units_from 0 (at + x.0.1) behind) units (sym (units_on at text x.0.0 x.0.1 x.1 u.some (omega arith)) ∙ e) in

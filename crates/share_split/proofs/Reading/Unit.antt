@@ -7,7 +7,7 @@ use Rattle.namespace_id.specs.Bytes.{AreBytes}
 use Rattle.namespace_id.proofs.StringLemmas.{AreBytes-take, AreBytes-drop}
 use Rattle.proto_fields.specs.Varints.{varint, varint_in}
 use Rattle.share_split.specs.Units.{unit_text}
-use Rattle.share_split.specs.Walks.{unit_of, unit_at}
+use Rattle.share_split.specs.Walks.{unit_of, text_unit}
 use Rattle.proto_fields.proofs.Varint.Shortest.{varint_back, varint_again, varint_shorter}
 
 -- a length that was read, and a unit that is all there
@@ -39,12 +39,12 @@ of_read text unit size (Some x) e is =
     }
 
 -- what was read
-pub read_unit : (text unit : List ℕ) (size : ℕ) → unit_at text ≡ Some (unit, size) → IsReadUnit text unit size
+pub read_unit : (text unit : List ℕ) (size : ℕ) → text_unit text ≡ Some (unit, size) → IsReadUnit text unit size
 read_unit text unit size e = of_read text unit size (varint_in 5 text) refl e
 
 -- a length that was read and passes the tests
 pub unit_read : (text rest unit after : List ℕ) (count : ℕ) → varint_in 5 text ≡ Some (count, rest) → count ≤ 4294967295 → count ≤ length rest
-    → unit ≡ take count rest → length after + count ≡ length rest → unit_at text ≡ Some (unit, length text - length after)
+    → unit ≡ take count rest → length after + count ≡ length rest → text_unit text ≡ Some (unit, length text - length after)
 unit_read text rest unit after count read few within unit_is left =
     let shorter = varint_shorter 5 text count rest read in
     let tests : (ltb count (2 ^ 32) && leb count (length rest)) ≡ true = and_from _ _ (lt-ltb _ _ (omega arith)) (le-leb _ _ within) in
@@ -62,7 +62,7 @@ pub record IsUnitFront (text unit : List ℕ) (size : ℕ) : Type 0 where
   pub within : size ≤ length text
 
 -- a unit that is read is spelled so
-pub unit_back : (text unit : List ℕ) (size : ℕ) → AreBytes text → unit_at text ≡ Some (unit, size) → IsUnitFront text unit size
+pub unit_back : (text unit : List ℕ) (size : ℕ) → AreBytes text → text_unit text ≡ Some (unit, size) → IsUnitFront text unit size
 unit_back text unit size fits e =
     let r = read_unit text unit size e in
     let spelled : text ≡ varint r.count ++ r.rest = varint_back 5 10 text r.count r.rest (omega arith) fits r.read in
@@ -83,7 +83,7 @@ unit_back text unit size fits e =
     }
 
 -- a unit that is spelled is read
-pub unit_again : (unit rest : List ℕ) → length unit < 2 ^ 32 → unit_at (unit_text unit ++ rest) ≡ Some (unit, length (unit_text unit))
+pub unit_again : (unit rest : List ℕ) → length unit < 2 ^ 32 → text_unit (unit_text unit ++ rest) ≡ Some (unit, length (unit_text unit))
 unit_again unit rest few =
     let n : ℕ = length unit in
     let text : List ℕ = unit_text unit ++ rest in

@@ -12,7 +12,7 @@ use Rattle.share_split.specs.declared.joining.JoinError.TheVariants.{BadReserved
 use Rattle.share_split.specs.Blobs.{max_sequence_length}
 use Rattle.share_split.specs.Units.{units_text, starts_from, reserved_of, first_compact_share, later_compact_shares, compact_count, compact_shares}
 use Rattle.share_split.specs.declared.walking.Form.TheVariants.{Units}
-use Rattle.share_split.specs.Walks.{Sequence, missing, is_complete, later_refusal, surplus_refusal, unit_refusal, taken_by, sequence_from, bad_reserved, reserved_units, units_in, units_of}
+use Rattle.share_split.specs.Walks.{Sequence, missing, is_complete, later_refusal, surplus_refusal, unit_refusal, sequence_after, sequence_from, bad_reserved, reserved_units, units_in, units_of}
 use Rattle.share_split.proofs.Reading.CompactFields.{first_compact_is}
 use Rattle.share_split.proofs.Reading.Sequence.{seq, first_passes, first_taken, later_passes, later_taken}
 use Rattle.share_split.proofs.Reading.Runs.{AreLater, later_compact_are, later_compact_count, later_compact_good}
@@ -22,11 +22,11 @@ use Rattle.share_split.proofs.Reading.TextLaws.{units_again}
 use Rattle.share_split.proofs.Reading.UnitWalk.{sequence_from-cons, sequence_from-whole}
 
 -- a share whose checks pass
-on : (i : ℕ) (so_far : Option Sequence) (share : Share) (shares : List Share) (t : Sequence) → unit_refusal i so_far share ≡ None → taken_by Units i so_far share ≡ t
+on : (i : ℕ) (so_far : Option Sequence) (share : Share) (shares : List Share) (t : Sequence) → unit_refusal i so_far share ≡ None → sequence_after Units i so_far share ≡ t
     → sequence_from i so_far (share ∷ shares) ≡ sequence_from (suc i) (Some t) shares
 on i so_far share shares t passes taken =
     sequence_from-cons i so_far share shares
-    ∙ ap (λ (o : Option JoinError). option_map_or Err o (sequence_from (suc i) (Some (taken_by Units i so_far share)) shares)) passes
+    ∙ ap (λ (o : Option JoinError). option_map_or Err o (sequence_from (suc i) (Some (sequence_after Units i so_far share)) shares)) passes
     ∙ ap (λ (s : Sequence). sequence_from (suc i) (Some s) shares) taken
 
 -- the rest of the sequence

@@ -6,7 +6,7 @@ use Rattle.namespace_id.specs.declared.shares.Share.{Share}
 use Rattle.share_split.specs.declared.joining.JoinError.{JoinError}
 use Rattle.share_split.specs.declared.joining.JoinError.TheVariants.{Short, NoMemory}
 use Rattle.share_split.specs.declared.walking.Form.TheVariants.{Units}
-use Rattle.share_split.specs.Walks.{Sequence, is_complete, taken_by, unit_refusal, sequence_from}
+use Rattle.share_split.specs.Walks.{Sequence, is_complete, sequence_after, unit_refusal, sequence_from}
 
 -- the one sequence, if there is any
 abbrev pub One : Type 0
@@ -14,7 +14,7 @@ One = Result (Option Sequence) JoinError
 
 -- the next share is checked first
 pub sequence_from-cons : (i : ℕ) (so_far : Option Sequence) (share : Share) (shares : List Share)
-    → sequence_from i so_far (share ∷ shares) ≡ option_map_or Err (unit_refusal i so_far share) (sequence_from (suc i) (Some (taken_by Units i so_far share)) shares)
+    → sequence_from i so_far (share ∷ shares) ≡ option_map_or Err (unit_refusal i so_far share) (sequence_from (suc i) (Some (sequence_after Units i so_far share)) shares)
 unfolding sequence_from
 sequence_from-cons i None share shares = refl
 sequence_from-cons i (Some s) share shares = refl
@@ -22,7 +22,7 @@ sequence_from-cons i (Some s) share shares = refl
 -- one share more was read
 pub sequence_more : (i : ℕ) (shares : List Share) (none : Share) (so_far : Option Sequence) (sequence : Sequence) (whole : One)
     → i < length shares
-    → unit_refusal i so_far (get_or shares i none) ≡ None → sequence ≡ taken_by Units i so_far (get_or shares i none)
+    → unit_refusal i so_far (get_or shares i none) ≡ None → sequence ≡ sequence_after Units i so_far (get_or shares i none)
     → sequence_from i so_far (drop i shares) ≡ whole
     → sequence_from (i + 1) (Some sequence) (drop (i + 1) shares) ≡ whole
 sequence_more i shares none so_far sequence whole lt passed taken before =
@@ -30,7 +30,7 @@ sequence_more i shares none so_far sequence whole lt passed taken before =
     let rest : List Share = drop (i + 1) shares in
     let e : i + 1 ≡ suc i = omega arith in
     ap₂ (λ (k : ℕ) (s : Sequence). sequence_from k (Some s) rest) e taken
-    ∙ sym (ap (λ (o : Option JoinError). option_map_or Err o (sequence_from (suc i) (Some (taken_by Units i so_far share)) rest)) passed)
+    ∙ sym (ap (λ (o : Option JoinError). option_map_or Err o (sequence_from (suc i) (Some (sequence_after Units i so_far share)) rest)) passed)
     ∙ sym (sequence_from-cons i so_far share rest)
     ∙ sym (ap (sequence_from i so_far) (drop_more shares i none lt))
     ∙ before
@@ -47,7 +47,7 @@ sequence_stop i shares none so_far whole error lt (inr refused) before =
     inr (sym before
     ∙ ap (sequence_from i so_far) (drop_more shares i none lt)
     ∙ sequence_from-cons i so_far share rest
-    ∙ ap (λ (o : Option JoinError). option_map_or Err o (sequence_from (suc i) (Some (taken_by Units i so_far share)) rest)) refused)
+    ∙ ap (λ (o : Option JoinError). option_map_or Err o (sequence_from (suc i) (Some (sequence_after Units i so_far share)) rest)) refused)
 
 -- no share is left
 pub sequence_end : (i : ℕ) (shares : List Share) (so_far : Option Sequence) (whole : One) → length shares ≤ i

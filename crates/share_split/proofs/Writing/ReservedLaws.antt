@@ -4,22 +4,22 @@ use Rattle.std.specs.List.{list_any, AllByRecursion}
 use Rattle.std.proofs.lemmas.Bool.{cases_lt, cases_Bool, true≢false}
 use Rattle.std.proofs.lemmas.Bool.Decides.{nat_tests}
 use Rattle.share_split.specs.Units.{unit_text, starts_from, content_start, content_place, place_in, first_place, reserved_of}
-use Rattle.share_split.specs.UnitLaws.{is_inside, IsFirstInside}
+use Rattle.share_split.specs.UnitLaws.{is_in_content, IsFirstInside}
 use Rattle.share_split.proofs.Writing.Starts.{starts_on-before, starts_on-at, starts_on-none}
 use Rattle.share_split.proofs.Writing.Places.{place_in-within, place_in-behind}
 
 -- ---- the content of a share
 
 -- a place inside a share is not before its content
-inside_from : (i at : ℕ) → is_inside i at ≡ true → content_start i ≤ at
+inside_from : (i at : ℕ) → is_in_content i at ≡ true → content_start i ≤ at
 inside_from i at h = grind (arith, nat_tests)
 
 -- a place inside a share is before the content of the next
-inside_below : (i at : ℕ) → is_inside i at ≡ true → at < content_start (suc i)
+inside_below : (i at : ℕ) → is_in_content i at ≡ true → at < content_start (suc i)
 inside_below i at h = grind (arith, nat_tests)
 
 -- a place from the content of a share up to that of the next is inside it
-is_inside_where : (i at : ℕ) → content_start i ≤ at → at < content_start (suc i) → is_inside i at ≡ true
+is_inside_where : (i at : ℕ) → content_start i ≤ at → at < content_start (suc i) → is_in_content i at ≡ true
 is_inside_where i at low high = grind (arith, nat_tests)
 
 -- ---- units start one after another
@@ -47,7 +47,7 @@ reserved_at : (i at : ℕ) (starts : List ℕ) → content_start i ≤ at → re
 reserved_at i at starts le = ap (first_place i) (starts_on-at (content_start i) at starts le)
 
 -- no start is stated where no unit starts in the share
-pub reserved_is_none : (i at : ℕ) (units : List (List ℕ)) → AllByRecursion (λ start. is_inside i start ≡ false) (starts_from at units)
+pub reserved_is_none : (i at : ℕ) (units : List (List ℕ)) → AllByRecursion (λ start. is_in_content i start ≡ false) (starts_from at units)
     → reserved_of i (starts_from at units) ≡ 0
 unfolding starts_from
 reserved_is_none i at [] none = ap (first_place i) (starts_on-none (content_start i))

@@ -11,7 +11,7 @@ use Rattle.nmt_tree.specs.Roots.{halvings}
 use Rattle.nmt_tree.specs.Spans.{name_at}
 use Rattle.nmt_proofs.specs.Parts.{leaf, digest_of}
 use Rattle.nmt_proofs.specs.Openings.{leaves_from}
-use Rattle.nmt_proofs.specs.Clashes.{Agree, AreShown, ArePlaces, AreListed, IsOpening, whole}
+use Rattle.nmt_proofs.specs.Clashes.{Agree, AreShown, ArePlacesBetween, AreListed, IsOpening, whole}
 use Rattle.nmt_proofs.proofs.Parts.ShownLemmas.{opening-sized, opening-deep}
 use Rattle.nmt_proofs.proofs.Parts.DigestLemmas.{same_digest}
 use Rattle.data_header.specs.Headers.{Roots, root_of}
@@ -25,7 +25,7 @@ use Rattle.axis_roots.specs.Grids.{IsHeaderOf}
 use Rattle.axis_roots.proofs.Grids.HeaderLemmas.{header_width}
 use Rattle.axis_roots.proofs.Messages.OwnLemmas.{names_or_agrees}
 use Rattle.square_serve.specs.Answers.{OpensFound, HoldsEntry}
-use Rattle.square_serve.specs.Own.{parts_of, nodes_of, opened_by, EntryNames, EntryAgrees}
+use Rattle.square_serve.specs.Own.{entry_parts, nodes_of, entry_opened, EntryNames, EntryAgrees}
 
 -- ---- the leaves of a range
 
@@ -37,7 +37,7 @@ leaves-shown from name (share ∷ shares) is are = ((refl, is, are.0), leaves-sh
 
 -- they are single places, ascending
 pub leaves-places : (low high from : ℕ) (name : Namespace) (shares : List Share) → low ≤ from → from + length shares ≤ high
-    → ArePlaces low high (leaves_from from name shares)
+    → ArePlacesBetween low high (leaves_from from name shares)
 unfolding leaves_from
 leaves-places low high from name [] le within = tt
 leaves-places low high from name (share ∷ shares) le within =
@@ -71,7 +71,7 @@ range_listed names line from name (share ∷ shares) within inside listed (suc i
 
 -- it is an opening
 opening_of : (k : ℕ) (name : Namespace) (root : Digest) (found : Found) → IsNamespace name → IsFound found → OpensFound k root name found
-    → IsOpening (halvings (2 * k)) (parts_of name found) (nodes_of found)
+    → IsOpening (halvings (2 * k)) (entry_parts name found) (nodes_of found)
 opening_of k name root (Range start shares nodes) is made opens = record {
   count = opens.opens.count;
   parts = leaves-shown start name shares is made.1;
@@ -80,11 +80,11 @@ opening_of k name root (Range start shares nodes) is made opens = record {
 opening_of k name root (Absence pos digest nodes) is made opens = record { count = opens.opens.count; parts = (made.1, tt); node_bytes = made.3 }
 
 -- its digest is the root
-digest-opened_by : (k : ℕ) (name : Namespace) (root : Digest) (found : Found) → OpensFound k root name found → digest_of (opened_by k name found) ≡ root
+digest-opened_by : (k : ℕ) (name : Namespace) (root : Digest) (found : Found) → OpensFound k root name found → digest_of (entry_opened k name found) ≡ root
 digest-opened_by k name root (Range start shares nodes) opens =
-    same_digest _ root ((bytes_eq-Decides (digest_of (opened_by k name (Range start shares nodes))).0 root.0).0 opens.opens.value)
+    same_digest _ root ((bytes_eq-Decides (digest_of (entry_opened k name (Range start shares nodes))).0 root.0).0 opens.opens.value)
 digest-opened_by k name root (Absence pos digest nodes) opens =
-    same_digest _ root ((bytes_eq-Decides (digest_of (opened_by k name (Absence pos digest nodes))).0 root.0).0 opens.opens.value)
+    same_digest _ root ((bytes_eq-Decides (digest_of (entry_opened k name (Absence pos digest nodes))).0 root.0).0 opens.opens.value)
 
 -- under the header of a square it agrees with the square's tree of its row, or they name a collision
 pub entry_or : (header : Roots) (name : Namespace) (square : SquareShares) (entry : NsEntry) → IsNamespace name → IsHeaderOf header square
@@ -96,6 +96,6 @@ entry_or header name square entry is own made below holds =
     let opens : OpensFound k root name entry.found = subst (λ (n : ℕ). OpensFound n root name entry.found) width holds.opens in
     let opening = opening_of k name root entry.found is made.found opens in
     let inside : entry.row < 2 * k = omega (arith, width, below) in
-    names_or_agrees header square Row entry.row (opened_by k name entry.found) own inside
-    (opening-deep (halvings (2 * k)) (parts_of name entry.found) (nodes_of entry.found) opening)
-    (opening-sized (halvings (2 * k)) (parts_of name entry.found) (nodes_of entry.found) opening) (digest-opened_by k name root entry.found opens)
+    names_or_agrees header square Row entry.row (entry_opened k name entry.found) own inside
+    (opening-deep (halvings (2 * k)) (entry_parts name entry.found) (nodes_of entry.found) opening)
+    (opening-sized (halvings (2 * k)) (entry_parts name entry.found) (nodes_of entry.found) opening) (digest-opened_by k name root entry.found opens)

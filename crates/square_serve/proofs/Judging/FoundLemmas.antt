@@ -23,7 +23,7 @@ use Rattle.axis_roots.specs.declared.answers.Found.TheVariants.{Range, Absence}
 use Rattle.axis_roots.specs.Grids.{IsHeaderOf, axis_names, axis_shares, axis_tree}
 use Rattle.square_serve.specs.Shares.{row_shares}
 use Rattle.square_serve.specs.Answers.{is_placed, shown_found, shown_from, OpensFound}
-use Rattle.square_serve.specs.Own.{opened_by}
+use Rattle.square_serve.specs.Own.{entry_opened}
 use Rattle.square_serve.proofs.Judging.EntryLemmas.{leaves-places, range_listed}
 use Rattle.square_serve.proofs.RowLemmas.{row_shares-range, row_shares-none}
 use Rattle.square_serve.proofs.RowTreeLemmas.{IsRow, own_row}
@@ -40,7 +40,7 @@ placed_absence k pos h = grind (arith, nat_tests)
 range_shows : (header : Roots) (name : Namespace) (square : SquareShares) (own : IsHeaderOf header square) (row start : ℕ) (shares : List Share)
     (nodes : List Digest) → is_parity name ≡ false → row < square.k → is_placed square.k (Range start shares nodes) ≡ true
     → OpensFound square.k (root_of header Row row) name (Range start shares nodes)
-    → Agree (opened_by square.k name (Range start shares nodes)) (axis_tree square.k own.grid Row row)
+    → Agree (entry_opened square.k name (Range start shares nodes)) (axis_tree square.k own.grid Row row)
     → shown_from row start shares ≡ row_shares square name row
 range_shows header name square own row start shares nodes other h placed opens same =
     let k : ℕ = square.k in
@@ -62,7 +62,7 @@ range_shows header name square own row start shares nodes other h placed opens s
 absence_shows : (header : Roots) (name : Namespace) (square : SquareShares) (own : IsHeaderOf header square) (row pos : ℕ) (digest : Digest)
     (nodes : List Digest) → is_parity name ≡ false → row < square.k → is_placed square.k (Absence pos digest nodes) ≡ true
     → OpensFound square.k (root_of header Row row) name (Absence pos digest nodes)
-    → Agree (opened_by square.k name (Absence pos digest nodes)) (axis_tree square.k own.grid Row row)
+    → Agree (entry_opened square.k name (Absence pos digest nodes)) (axis_tree square.k own.grid Row row)
     → [] ≡ row_shares square name row
 unfolding span
 absence_shows header name square own row pos digest nodes other h placed opens same =
@@ -84,7 +84,7 @@ absence_shows header name square own row pos digest nodes other h placed opens s
 -- what is found in a row shows exactly the row's shares of the namespace
 pub found_shows : (header : Roots) (name : Namespace) (square : SquareShares) (own : IsHeaderOf header square) (row : ℕ) (found : Found)
     → is_parity name ≡ false → row < square.k → is_placed square.k found ≡ true → OpensFound square.k (root_of header Row row) name found
-    → Agree (opened_by square.k name found) (axis_tree square.k own.grid Row row) → shown_found row found ≡ row_shares square name row
+    → Agree (entry_opened square.k name found) (axis_tree square.k own.grid Row row) → shown_found row found ≡ row_shares square name row
 found_shows header name square own row (Range start shares nodes) other h placed opens same =
     range_shows header name square own row start shares nodes other h placed opens same
 found_shows header name square own row (Absence pos digest nodes) other h placed opens same =

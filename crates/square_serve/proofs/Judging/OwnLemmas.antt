@@ -17,9 +17,9 @@ use Rattle.axis_roots.specs.Grids.{IsHeaderOf, axis_tree}
 use Rattle.axis_roots.proofs.Grids.HeaderLemmas.{header_width}
 use Rattle.axis_roots.proofs.Grids.ExtensionLemmas.{extension_once}
 use Rattle.axis_roots.proofs.Messages.OwnLemmas.{agrees_apart}
-use Rattle.square_serve.specs.Shares.{row_shares, shares_of}
+use Rattle.square_serve.specs.Shares.{row_shares, namespace_shares}
 use Rattle.square_serve.specs.Answers.{is_wanted, is_placed, wanted_rows, shown_found, shown, OpensFound, HoldsEntry, IsComplete}
-use Rattle.square_serve.specs.Own.{opened_by, EntryNames, EntryAgrees, AnswerNames, ShowsAll, IsOwnAnswer}
+use Rattle.square_serve.specs.Own.{entry_opened, EntryNames, EntryAgrees, AnswerNames, ShowsAll, IsOwnAnswer}
 use Rattle.square_serve.specs.Placed.{IsPlacedEntry}
 use Rattle.square_serve.proofs.Judging.EachLemmas.{each_from, each_or_one}
 use Rattle.square_serve.proofs.Judging.PlaceLemmas.{placed_rows, wanted_below}
@@ -29,10 +29,10 @@ use Rattle.square_serve.proofs.RowTreeLemmas.{shown_rows}
 
 -- the tree of an entry agrees with the row of the header's grid
 pub row_agrees : (header : Roots) (name : Namespace) (square : SquareShares) (own : IsHeaderOf header square) (entry : NsEntry) → EntryAgrees name square entry
-    → Agree (opened_by square.k name entry.found) (axis_tree square.k own.grid Row entry.row)
+    → Agree (entry_opened square.k name entry.found) (axis_tree square.k own.grid Row entry.row)
 row_agrees header name square own entry agrees =
     let one : agrees.grid ≡ own.grid = extension_once square.k square.shares agrees.grid own.grid own.whole.width agrees.extends own.extends in
-    subst (λ (g : List Share). Agree (opened_by square.k name entry.found) (axis_tree square.k g Row entry.row)) one agrees.same
+    subst (λ (g : List Share). Agree (entry_opened square.k name entry.found) (axis_tree square.k g Row entry.row)) one agrees.same
 
 -- an entry of a complete answer: of the answer's sizes, in a row of the original square, and holding
 pub record IsSoundEntry (header : Roots) (name : Namespace) (entry : NsEntry) : Type 0 where
@@ -63,7 +63,7 @@ entry_shows header name square own entry other sound agrees =
 -- where each entry agrees, the answer shows exactly the square's shares of the namespace
 all_shown : (header : Roots) (name : Namespace) (answer : List NsEntry) (square : SquareShares)
     → IsHeaderOf header square → IsComplete header name answer → AllByRecursion (IsSoundEntry header name) answer
-    → AllByRecursion (EntryAgrees name square) answer → shown answer ≡ shares_of square name
+    → AllByRecursion (EntryAgrees name square) answer → shown answer ≡ namespace_shares square name
 all_shown header name answer square own complete sound alike =
     shown_rows header name square own answer complete.other complete.rows
     (each_from (IsSoundEntry header name) (EntryAgrees name square) (λ entry. shown_found entry.row entry.found ≡ row_shares square name entry.row)
@@ -86,5 +86,5 @@ pub answer_apart : (name : Namespace) (square : SquareShares) (answer : List NsE
     → AnswerNames name square answer → ⊥
 answer_apart name square answer whole shows names =
     let entry : NsEntry = names.0 in
-    agrees_apart square Row entry.row (opened_by square.k name entry.found) whole
+    agrees_apart square Row entry.row (entry_opened square.k name entry.found) whole
     (All-contains (EntryAgrees name square) answer entry (All-from_recursion (EntryAgrees name square) answer shows.alike) names.1) names.2

@@ -15,9 +15,9 @@ use Rattle.axis_roots.specs.declared.answers.NsEntry.{NsEntry}
 use Rattle.axis_roots.specs.Answers.{IsEntry, AreEntries}
 use Rattle.axis_roots.specs.Grids.{IsHeaderOf, header_of_grid}
 use Rattle.axis_roots.proofs.Grids.HeaderLemmas.{header_width, header_root, header_made}
-use Rattle.square_serve.specs.Shares.{row_shares, shares_of}
+use Rattle.square_serve.specs.Shares.{row_shares, namespace_shares}
 use Rattle.square_serve.specs.Answers.{shown_found, shown, is_wanted, wanted_rows, is_placed, OpensFound, HoldsEntry, IsComplete}
-use Rattle.square_serve.specs.Serving.{HeldParts, IsHeld, Holds, found_in, entry_in, answer_for}
+use Rattle.square_serve.specs.Serving.{HeldParts, IsHeld, Holds, found_in, row_entry, answer_for}
 use Rattle.square_serve.proofs.PassingLemmas.{each_passing}
 use Rattle.square_serve.proofs.RowTreeLemmas.{IsRow, held_row, root_over, shown_rows}
 use Rattle.square_serve.proofs.Serving.OpeningLemmas.{found_opens, found_placed}
@@ -26,7 +26,7 @@ use Rattle.square_serve.proofs.Serving.ShownLemmas.{found_shown}
 
 -- the entry of a row that may hold a namespace holds
 entry_holds : (held : HeldParts) (name : Namespace) → IsHeld held → IsNamespace name → is_parity name ≡ false → (row : ℕ) → row < held.k
-    → is_wanted held.header name row ≡ true → HoldsEntry held.header name (entry_in held.k held.grid name row)
+    → is_wanted held.header name row ≡ true → HoldsEntry held.header name (row_entry held.k held.grid name row)
 entry_holds held name is named other row h wanted =
     let one : IsRow held.k held.grid row = held_row held is row h in
     let root : Digest = root_of held.header Row row in
@@ -41,14 +41,14 @@ entry_holds held name is named other row h wanted =
 
 -- the rows of its entries are those that may hold it
 answer-rows : (held : HeldParts) (name : Namespace) → map (λ entry. entry.row) (answer_for held name) ≡ wanted_rows held.header name
-answer-rows held name = map-map (λ entry. entry.row) (entry_in held.k held.grid name) (wanted_rows held.header name) ∙ map-id (wanted_rows held.header name)
+answer-rows held name = map-map (λ entry. entry.row) (row_entry held.k held.grid name) (wanted_rows held.header name) ∙ map-id (wanted_rows held.header name)
 
 -- a fact of the entry of each row that may hold it is one of each entry
 each_entry : (held : HeldParts) (name : Namespace) → IsHeld held → (P : NsEntry → Type 0)
-    → ((row : ℕ) → row < held.k → is_wanted held.header name row ≡ true → P (entry_in held.k held.grid name row)) → AllByRecursion P (answer_for held name)
+    → ((row : ℕ) → row < held.k → is_wanted held.header name row ≡ true → P (row_entry held.k held.grid name row)) → AllByRecursion P (answer_for held name)
 each_entry held name is P each =
     let width : held.header.k ≡ held.k = header_width held.k held.grid held.header is.roots in
-    each_passing (is_wanted held.header name) (entry_in held.k held.grid name) P held.header.k 0 (λ row low high. each row (omega (arith, high, width)))
+    each_passing (is_wanted held.header name) (row_entry held.k held.grid name) P held.header.k 0 (λ row low high. each row (omega (arith, high, width)))
 
 -- its answer for a namespace is complete
 pub answer_complete : (held : HeldParts) (name : Namespace) → IsHeld held → IsNamespace name → is_parity name ≡ false → IsComplete held.header name (answer_for held name)
@@ -72,7 +72,7 @@ held_own held square holds =
 
 -- the answer shows exactly the square's shares of the namespace
 pub answer_shares : (held : HeldParts) (square : SquareShares) (name : Namespace) → IsHeld held → Holds held square → IsNamespace name → is_parity name ≡ false
-    → shown (answer_for held name) ≡ shares_of square name
+    → shown (answer_for held name) ≡ namespace_shares square name
 answer_shares held square name is holds named other =
     shown_rows held.header name square (held_own held square holds) (answer_for held name) other (answer-rows held name)
     (each_entry held name is (λ entry. shown_found entry.row entry.found ≡ row_shares square name entry.row) (λ row h wanted.

@@ -38,8 +38,8 @@ use Rattle.axis_roots.specs.Trees.{axis_leaves}
 use Rattle.axis_roots.proofs.Grids.HeaderLemmas.{header_width}
 use Rattle.axis_roots.proofs.Grids.StoredLemmas.{length-leaves}
 use Rattle.square_serve.specs.Answers.{is_placed, is_wanted, wanted_rows, OpensFound, IsComplete}
-use Rattle.square_serve.specs.Own.{opened_by, AnswerNames, EntryAgrees, EntryNames}
-use Rattle.square_serve.specs.Serving.{HeldParts, Holds, found_in, entry_in, answer_for}
+use Rattle.square_serve.specs.Own.{entry_opened, AnswerNames, EntryAgrees, EntryNames}
+use Rattle.square_serve.specs.Serving.{HeldParts, Holds, found_in, row_entry, answer_for}
 use Rattle.square_serve.proofs.PassingLemmas.{each_passing}
 use Rattle.square_serve.proofs.RowTreeLemmas.{IsRow, own_row, root_over}
 use Rattle.square_serve.proofs.Judging.EachLemmas.{each_from, each_or_one}
@@ -162,7 +162,7 @@ module _ (header : Roots) (name : Namespace) (square : SquareShares) (own : IsHe
   -- a range that agrees with the row's tree is the one that is served
   range_only : (start : ℕ) (shares : List Share) (nodes : List Digest) → is_placed square.k (Range start shares nodes) ≡ true
       → OpensFound square.k (root_of header Row row) name (Range start shares nodes)
-      → Agree (opened_by square.k name (Range start shares nodes)) (axis_tree square.k own.grid Row row)
+      → Agree (entry_opened square.k name (Range start shares nodes)) (axis_tree square.k own.grid Row row)
       → Range start shares nodes ≡ found_in square.k own.grid name row
   range_only start shares nodes placed opens agree =
       let k : ℕ = square.k in
@@ -205,7 +205,7 @@ module _ (header : Roots) (name : Namespace) (square : SquareShares) (own : IsHe
   absence_only : (pos : ℕ) (leaf : Digest) (nodes : List Digest) → is_wanted header name row ≡ true
       → is_placed square.k (Absence pos leaf nodes) ≡ true
       → OpensFound square.k (root_of header Row row) name (Absence pos leaf nodes)
-      → Agree (opened_by square.k name (Absence pos leaf nodes)) (axis_tree square.k own.grid Row row)
+      → Agree (entry_opened square.k name (Absence pos leaf nodes)) (axis_tree square.k own.grid Row row)
       → Absence pos leaf nodes ≡ found_in square.k own.grid name row
   unfolding span
   absence_only pos leaf nodes wanted placed opens agree =
@@ -246,7 +246,7 @@ module _ (header : Roots) (name : Namespace) (square : SquareShares) (own : IsHe
 
   -- so is what is found there
   pub found_only : (found : Found) → is_wanted header name row ≡ true → is_placed square.k found ≡ true → OpensFound square.k (root_of header Row row) name found
-      → Agree (opened_by square.k name found) (axis_tree square.k own.grid Row row) → found ≡ found_in square.k own.grid name row
+      → Agree (entry_opened square.k name found) (axis_tree square.k own.grid Row row) → found ≡ found_in square.k own.grid name row
   found_only (Range start shares nodes) wanted placed opens agree = range_only start shares nodes placed opens agree
   found_only (Absence pos leaf nodes) wanted placed opens agree = absence_only pos leaf nodes wanted placed opens agree
 
@@ -255,7 +255,7 @@ module _ (header : Roots) (name : Namespace) (square : SquareShares) (own : IsHe
 -- an entry that agrees is the one that is served
 entry_only : (header : Roots) (name : Namespace) (square : SquareShares) (own : IsHeaderOf header square) (entry : NsEntry) → IsNamespace name
     → is_parity name ≡ false → is_wanted header name entry.row ≡ true → IsSoundEntry header name entry → EntryAgrees name square entry
-    → entry ≡ entry_in square.k own.grid name entry.row
+    → entry ≡ row_entry square.k own.grid name entry.row
 entry_only header name square own entry named other wanted sound agrees =
     let width : header.k ≡ square.k = header_width square.k own.grid header own.roots in
     let found : entry.found ≡ found_in square.k own.grid name entry.row =
@@ -305,9 +305,9 @@ answer_only held square name answer holds named sized complete =
           let both = each_from (λ entry. is_wanted header name entry.row ≡ true) (IsSoundEntry header name)
           (λ entry. (is_wanted header name entry.row ≡ true) × IsSoundEntry header name entry) (λ entry w one. (w, one)) answer wanted sound in
           let made = each_from (λ entry. (is_wanted header name entry.row ≡ true) × IsSoundEntry header name entry) (EntryAgrees name square)
-          (λ entry. entry ≡ entry_in square.k held.grid name entry.row)
+          (λ entry. entry ≡ row_entry square.k held.grid name entry.row)
           (λ entry w agrees. entry_only header name square own entry named complete.other w.0 w.1 agrees) answer both alike in
-          inl (made_of_rows (entry_in square.k held.grid name) answer made ∙ ap (map (entry_in square.k held.grid name)) complete.rows
-          ∙ ap (λ (k : ℕ). map (entry_in k held.grid name) (wanted_rows header name)) (sym holds.width))
+          inl (made_of_rows (row_entry square.k held.grid name) answer made ∙ ap (map (row_entry square.k held.grid name)) complete.rows
+          ∙ ap (λ (k : ℕ). map (row_entry k held.grid name) (wanted_rows header name)) (sym holds.width))
       | inr names ↦ inr names
     ]

@@ -10,9 +10,9 @@ use Rattle.axis_roots.specs.Answers.{AreEntries}
 use Rattle.axis_roots.specs.Grids.{Extends, IsHeaderOf, are_ordered_axes, grid_roots}
 use Rattle.axis_roots.proofs.Grids.HeaderLemmas.{some_if}
 use Rattle.axis_roots.proofs.Grids.QuarterLemmas.{extension_shares}
-use Rattle.square_serve.specs.Shares.{shares_of}
+use Rattle.square_serve.specs.Shares.{namespace_shares}
 use Rattle.square_serve.specs.Answers.{shown, wanted_rows, IsComplete}
-use Rattle.square_serve.specs.Serving.{HeldParts, IsHeld, Holds, entry_in, answer_for}
+use Rattle.square_serve.specs.Serving.{HeldParts, IsHeld, Holds, row_entry, answer_for}
 use Rattle.square_serve.proofs.Serving.AnswerLemmas.{answer_complete, answer_sized, answer_shares}
 
 -- a square with its header, as one that is held
@@ -33,7 +33,7 @@ holds_own header square own = record { whole = own.whole; width = refl; extends 
 
 -- there is an answer for each namespace but PARITY
 pub own_answer : (header : Roots) (square : SquareShares) (name : Namespace) → IsHeaderOf header square → IsNamespace name → is_parity name ≡ false
-    → (answer : List NsEntry) × IsComplete header name answer × AreEntries answer × (shown answer ≡ shares_of square name)
+    → (answer : List NsEntry) × IsComplete header name answer × AreEntries answer × (shown answer ≡ namespace_shares square name)
 own_answer header square name own named other =
     let held : HeldParts = held_of header square own in
     let is : IsHeld held = held_own header square own in (
@@ -47,7 +47,7 @@ own_answer header square name own named other =
 abbrev pub AreFound : SquareShares → Namespace → List NsEntry → Type 0
 AreFound square name entries =
     (grid : List Share) → Extends square.k square.shares grid
-    → entries ≡ map (entry_in square.k grid name) (wanted_rows (grid_roots square.k grid) name)
+    → entries ≡ map (row_entry square.k grid name) (wanted_rows (grid_roots square.k grid) name)
 
 module _ (square : SquareShares) (name : Namespace) (entries : List NsEntry) (are : AreFound square name entries) where
   -- entries that are those of each extension are the answer of whoever holds the square
@@ -55,8 +55,8 @@ module _ (square : SquareShares) (name : Namespace) (entries : List NsEntry) (ar
   entries_held held holds =
       let made : held.header ≡ grid_roots held.k held.grid = (some_if (are_ordered_axes held.k held.grid) (grid_roots held.k held.grid) held.header holds.roots).1 in
       are held.grid holds.extends
-      ∙ ap (λ (k : ℕ). map (entry_in k held.grid name) (wanted_rows (grid_roots k held.grid) name)) (sym holds.width)
-      ∙ ap (λ (header : Roots). map (entry_in held.k held.grid name) (wanted_rows header name)) (sym made)
+      ∙ ap (λ (k : ℕ). map (row_entry k held.grid name) (wanted_rows (grid_roots k held.grid) name)) (sym holds.width)
+      ∙ ap (λ (header : Roots). map (row_entry held.k held.grid name) (wanted_rows header name)) (sym made)
 
   -- so they are complete under the square's header
   pub entries_complete : IsNamespace name → is_parity name ≡ false → (header : Roots) → IsHeaderOf header square → IsComplete header name entries
@@ -65,7 +65,7 @@ module _ (square : SquareShares) (name : Namespace) (entries : List NsEntry) (ar
       (answer_complete (held_of header square own) name (held_own header square own) named other)
 
   -- and show exactly the square's shares of the namespace
-  pub entries_shares : IsNamespace name → is_parity name ≡ false → (header : Roots) → IsHeaderOf header square → shown entries ≡ shares_of square name
+  pub entries_shares : IsNamespace name → is_parity name ≡ false → (header : Roots) → IsHeaderOf header square → shown entries ≡ namespace_shares square name
   entries_shares named other header own =
       ap shown (entries_held (held_of header square own) (holds_own header square own))
       ∙ answer_shares (held_of header square own) square name (held_own header square own) (holds_own header square own) named other

@@ -24,7 +24,7 @@ use Rattle.axis_roots.specs.Grids.{axis_names, axis_shares}
 use Rattle.axis_roots.specs.Trees.{axis_leaves}
 use Rattle.axis_roots.proofs.Grids.StoredLemmas.{length-leaves}
 use Rattle.axis_roots.proofs.Messages.SizeLemmas.{digests-leaves, digest-span, number-lt-two_bytes}
-use Rattle.square_serve.specs.Serving.{entry_in}
+use Rattle.square_serve.specs.Serving.{row_entry}
 use Rattle.square_serve.proofs.RowTreeLemmas.{IsRow}
 use Rattle.square_serve.proofs.Serving.FoundLemmas.{found_both, below, same, stands, row_names, below-lt}
 
@@ -47,7 +47,7 @@ nodes_beside depth from leaves ss are long deep some fits run =
     )
 
 -- what is found of a namespace in a row, and its entry
-pub entry_sized : (name : Namespace) (k : ℕ) (grid : List Share) (row : ℕ) → IsNamespace name → IsRow k grid row → IsEntry (entry_in k grid name row)
+pub entry_sized : (name : Namespace) (k : ℕ) (grid : List Share) (row : ℕ) → IsNamespace name → IsRow k grid row → IsEntry (row_entry k grid name row)
 entry_sized name k grid row named is =
     let depth : ℕ = halvings (2 * k) in
     let names : List Namespace = axis_names k grid Row row in

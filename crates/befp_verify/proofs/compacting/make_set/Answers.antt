@@ -3,11 +3,11 @@ use Rattle.std.specs.List.{AllByRecursion}
 use Rattle.namespace_id.specs.declared.digests.Digest.{Digest}
 use Rattle.namespace_id.specs.Digests.{AreDigests}
 use Rattle.nmt_tree.specs.Roots.{halvings}
-use Rattle.nmt_proofs.specs.Merging.{Branch, merged_nodes, HoldsAlong, AreAlike}
+use Rattle.nmt_proofs.specs.Merging.{Branch, merged_nodes, HoldsAlong, BranchesAgree}
 use Rattle.data_header.specs.Headers.{Roots, AreRoots}
 use Rattle.axis_roots.specs.Claims.{ClaimParts, Accepts}
 use Rattle.befp_verify.specs.declared.compacting.Placed.{Placed}
-use Rattle.befp_verify.specs.Placed.{placed, HasNodes, AreUnderOne, NamesTwoOf}
+use Rattle.befp_verify.specs.Placed.{placed_branches, HasNodes, AreUnderOne, NamesTwoOf}
 use Rattle.befp_verify.specs.Compacting.{bare_all, with_set, branches_of}
 use Rattle.befp_verify.proofs.CompactLemmas.{compacted_accepts}
 use Rattle.befp_verify.proofs.ReadyLemmas.{Ready, ready, wide_claim, two_named}
@@ -18,7 +18,7 @@ first_clash-requires-clause-places c =
     let width : c.header.inside.k ≡ c.args.header.now.k = ap (λ (r : Roots). r.k) c.header.view_is in
     let roots : AreRoots c.args.header.now = subst AreRoots c.header.view_is c.header.invariant in
     let cells : c.deref.result.now ≡ c.args.claim.now.cells = c.deref.ensures.value ∙ ap (λ (p : ClaimParts). p.cells) c.claim.view_is in
-    let made : placed c.in_ok-branches.branches.items ≡ branches_of c.args.header.now.k c.args.claim.now.axis c.args.claim.now.cells =
+    let made : placed_branches c.in_ok-branches.branches.items ≡ branches_of c.args.header.now.k c.args.claim.now.axis c.args.claim.now.cells =
     c.in_ok-branches.ensures
     ∙ (λ i. branches_of (width i) (ap (λ (p : ClaimParts). p.axis) c.claim.view_is i) (cells i)) in
     let all : Ready c.args.header.now.k c.in_ok-branches.branches.items =
@@ -31,25 +31,25 @@ first_clash-requires-clause-open c =
     let width : c.header.inside.k ≡ c.args.header.now.k = ap (λ (r : Roots). r.k) c.header.view_is in
     let roots : AreRoots c.args.header.now = subst AreRoots c.header.view_is c.header.invariant in
     let cells : c.deref.result.now ≡ c.args.claim.now.cells = c.deref.ensures.value ∙ ap (λ (p : ClaimParts). p.cells) c.claim.view_is in
-    let made : placed c.in_ok-branches.branches.items ≡ branches_of c.args.header.now.k c.args.claim.now.axis c.args.claim.now.cells =
+    let made : placed_branches c.in_ok-branches.branches.items ≡ branches_of c.args.header.now.k c.args.claim.now.axis c.args.claim.now.cells =
     c.in_ok-branches.ensures
     ∙ (λ i. branches_of (width i) (ap (λ (p : ClaimParts). p.axis) c.claim.view_is i) (cells i)) in
     let all : Ready c.args.header.now.k c.in_ok-branches.branches.items =
     ready c.args.header.now c.args.claim.now c.in_ok-branches.branches.items roots.width c.requires.accepted c.requires.wide made in
-    subst (λ (k : ℕ). AreUnderOne (halvings (2 * k)) (placed c.deref-2.result.now)) (sym width)
-    (subst (λ (ps : List Placed). AreUnderOne (halvings (2 * c.args.header.now.k)) (placed ps)) (sym c.deref-2.ensures.value) all.open_all)
+    subst (λ (k : ℕ). AreUnderOne (halvings (2 * k)) (placed_branches c.deref-2.result.now)) (sym width)
+    (subst (λ (ps : List Placed). AreUnderOne (halvings (2 * c.args.header.now.k)) (placed_branches ps)) (sym c.deref-2.ensures.value) all.open_all)
 
 -- two of its cells name a collision
 pub returns-in-Some : goal.returns-in-Some
 returns-in-Some c =
     let width : c.header.inside.k ≡ c.args.header.now.k = ap (λ (r : Roots). r.k) c.header.view_is in
     let cells : c.deref.result.now ≡ c.args.claim.now.cells = c.deref.ensures.value ∙ ap (λ (p : ClaimParts). p.cells) c.claim.view_is in
-    let made : placed c.in_ok-branches.branches.items ≡ branches_of c.args.header.now.k c.args.claim.now.axis c.args.claim.now.cells =
+    let made : placed_branches c.in_ok-branches.branches.items ≡ branches_of c.args.header.now.k c.args.claim.now.axis c.args.claim.now.cells =
     c.in_ok-branches.ensures
     ∙ (λ i. branches_of (width i) (ap (λ (p : ClaimParts). p.axis) c.claim.view_is i) (cells i)) in (
       c.requires.wide,
-      two_named c.args.header.now.k c.args.claim.now (placed c.deref-2.result.now) c.in-Some.clash (ap placed c.deref-2.ensures.value ∙ made)
-          (subst (λ (k : ℕ). NamesTwoOf (halvings (2 * k)) (placed c.deref-2.result.now) c.in-Some.clash) width c.in-Some.ensures),
+      two_named c.args.header.now.k c.args.claim.now (placed_branches c.deref-2.result.now) c.in-Some.clash (ap placed_branches c.deref-2.ensures.value ∙ made)
+          (subst (λ (k : ℕ). NamesTwoOf (halvings (2 * k)) (placed_branches c.deref-2.result.now) c.in-Some.clash) width c.in-Some.ensures),
     )
 
 pub merge-requires-clause-paths : goal.merge-requires-clause-paths
@@ -57,7 +57,7 @@ merge-requires-clause-paths c =
     let width : c.header.inside.k ≡ c.args.header.now.k = ap (λ (r : Roots). r.k) c.header.view_is in
     let roots : AreRoots c.args.header.now = subst AreRoots c.header.view_is c.header.invariant in
     let cells : c.deref.result.now ≡ c.args.claim.now.cells = c.deref.ensures.value ∙ ap (λ (p : ClaimParts). p.cells) c.claim.view_is in
-    let made : placed c.in_ok-branches.branches.items ≡ branches_of c.args.header.now.k c.args.claim.now.axis c.args.claim.now.cells =
+    let made : placed_branches c.in_ok-branches.branches.items ≡ branches_of c.args.header.now.k c.args.claim.now.axis c.args.claim.now.cells =
     c.in_ok-branches.ensures
     ∙ (λ i. branches_of (width i) (ap (λ (p : ClaimParts). p.axis) c.claim.view_is i) (cells i)) in
     let all : Ready c.args.header.now.k c.in_ok-branches.branches.items =
@@ -72,7 +72,7 @@ returns c =
     let width : c.header.inside.k ≡ c.args.header.now.k = ap (λ (r : Roots). r.k) c.header.view_is in
     let roots : AreRoots c.args.header.now = subst AreRoots c.header.view_is c.header.invariant in
     let cells : c.deref.result.now ≡ c.args.claim.now.cells = c.deref.ensures.value ∙ ap (λ (p : ClaimParts). p.cells) c.claim.view_is in
-    let made : placed c.in_ok-branches.branches.items ≡ branches_of c.args.header.now.k c.args.claim.now.axis c.args.claim.now.cells =
+    let made : placed_branches c.in_ok-branches.branches.items ≡ branches_of c.args.header.now.k c.args.claim.now.axis c.args.claim.now.cells =
     c.in_ok-branches.ensures
     ∙ (λ i. branches_of (width i) (ap (λ (p : ClaimParts). p.axis) c.claim.view_is i) (cells i)) in
     let k : ℕ = c.args.header.now.k in
@@ -82,10 +82,10 @@ returns c =
     let depth : c.halvings.result ≡ halvings (2 * k) = c.halvings.ensures.value ∙ ap (λ (n : ℕ). halvings (2 * n)) width in
     let g : Digest = c.no_node-beside.result in
     let merged : nodes ≡ merged_nodes (halvings (2 * k)) 0 0 g (branches_of k claim.axis claim.cells) =
-    c.in_ok-merge.ensures ∙ ap (λ (l : List Digest). l ++ merged_nodes c.halvings.result 0 0 g (placed c.deref-3.result.now)) c.new-nodes.ensures.items
-    ∙ (λ i. merged_nodes (depth i) 0 0 g ((ap placed c.deref-3.ensures.value ∙ made) i)) in
-    let alike : HoldsAlong (AreAlike (halvings (2 * k))) (branches_of k claim.axis claim.cells) =
-    subst₂ (λ (n : ℕ) (bs : List Branch). HoldsAlong (AreAlike (halvings (2 * n))) bs) width (ap placed c.deref-2.ensures.value ∙ made) c.in_default.ensures in
+    c.in_ok-merge.ensures ∙ ap (λ (l : List Digest). l ++ merged_nodes c.halvings.result 0 0 g (placed_branches c.deref-3.result.now)) c.new-nodes.ensures.items
+    ∙ (λ i. merged_nodes (depth i) 0 0 g ((ap placed_branches c.deref-3.ensures.value ∙ made) i)) in
+    let alike : HoldsAlong (BranchesAgree (halvings (2 * k))) (branches_of k claim.axis claim.cells) =
+    subst₂ (λ (n : ℕ) (bs : List Branch). HoldsAlong (BranchesAgree (halvings (2 * n))) bs) width (ap placed_branches c.deref-2.ensures.value ∙ made) c.in_default.ensures in
     let digests : AreDigests nodes = subst AreDigests c.deref-4.ensures.value c.digests_law.ensures in
     let bared : c.in_ok-bare_messages.field-0.items ≡ bare_all claim.axis claim.cells =
     c.in_ok-bare_messages.ensures

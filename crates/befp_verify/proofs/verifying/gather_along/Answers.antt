@@ -6,7 +6,7 @@ use Rattle.namespace_id.specs.declared.shares.Share.{Share}
 use Rattle.namespace_id.specs.Cells.{leaf_namespace}
 use Rattle.axis_roots.specs.declared.message.messages.Message.{Message}
 use Rattle.axis_roots.specs.Messages.{position}
-use Rattle.axis_roots.specs.Sets.{along_in, names_in, is_bare}
+use Rattle.axis_roots.specs.Sets.{along_in, sample_names, is_bare}
 use Rattle.axis_roots.proofs.Messages.SetLemmas.{bare_here}
 use Rattle.befp_verify.proofs.AlongLemmas.{along_more, along_same, gathered_more, all_at, few_so_far}
 use Rattle.befp_verify.proofs.verifying.gather_along.Goals as goal
@@ -63,7 +63,7 @@ loop-at-preserved c =
           record {
             number = w.count-is ∙ c.loop-at.invariant.number ∙ sym (ap length same);
             positions = ap₂ (λ (x : ℕ) (y : List ℕ). take x y) w.count-is w.known-is ∙ c.loop-at.invariant.positions ∙ sym (ap (map (λ x. position axis x.cell)) same);
-            leaf_names = ap₂ (λ (x : ℕ) (y : List Namespace). take x y) w.count-is w.names-is ∙ c.loop-at.invariant.leaf_names ∙ sym (ap (names_in c.args.k) same);
+            leaf_names = ap₂ (λ (x : ℕ) (y : List Namespace). take x y) w.count-is w.names-is ∙ c.loop-at.invariant.leaf_names ∙ sym (ap (sample_names c.args.k) same);
             copies = ap₂ (λ (x : ℕ) (y : List Share). take x y) w.count-is w.shares-is ∙ c.loop-at.invariant.copies ∙ sym (ap (map (λ x. x.share)) same);
           }
     ]
@@ -83,7 +83,7 @@ returns-clause-known c =
 pub returns-clause-names : goal.returns-clause-names
 returns-clause-names c =
     c.loop-at.invariant.leaf_names
-    ∙ ap (λ (ms : List Message). names_in c.args.k (along_in c.args.axis ms))
+    ∙ ap (λ (ms : List Message). sample_names c.args.k (along_in c.args.axis ms))
     (take_all c.loop-at.at c.args.cells.now (omega arith))
 
 pub returns-clause-shares : goal.returns-clause-shares

@@ -13,7 +13,7 @@ use Rattle.nmt_proofs.specs.Causes.{set_refusal}
 use Rattle.data_header.specs.Headers.{Roots}
 use Rattle.axis_roots.specs.declared.message.messages.Message.{Message}
 use Rattle.axis_roots.specs.Messages.{position}
-use Rattle.axis_roots.specs.Sets.{is_along, along_in, names_in, is_bare}
+use Rattle.axis_roots.specs.Sets.{is_along, along_in, sample_names, is_bare}
 use Rattle.axis_roots.specs.Claims.{ClaimParts, claimed_root, has_shape}
 use Rattle.axis_roots.proofs.Messages.ClaimLemmas.{shape_of}
 use Rattle.axis_roots.proofs.Messages.SetLemmas.{set_ascending, some_along}
@@ -158,12 +158,12 @@ returns-clause-refusal c =
     ∙ c.gather_along-count.ensures.known
     ∙ ap (λ (p : ClaimParts). map (λ m. position p.axis m.cell) (along_in p.axis p.cells)) c.claim.view_is in
     let width : c.header.inside.k ≡ c.args.header.now.k = ap (λ (r : Roots). r.k) c.header.view_is in
-    let names : take c.gather_along-count.result c.deref-2.result.now ≡ names_in c.args.header.now.k (along_in c.args.claim.now.axis c.args.claim.now.cells) =
+    let names : take c.gather_along-count.result c.deref-2.result.now ≡ sample_names c.args.header.now.k (along_in c.args.claim.now.axis c.args.claim.now.cells) =
     ap (take c.gather_along-count.result) (c.deref-2.ensures.value
     ∙ front c.gather_along-count.new.names _ _ (c.gather_along-count.auto.names ∙ c.deref_mut-2.ensures.len))
     ∙ c.gather_along-count.ensures.names
-    ∙ ap (λ (k : ℕ). names_in k (along_in c.claim.inside.axis c.claim.inside.cells.now)) width
-    ∙ ap (λ (p : ClaimParts). names_in c.args.header.now.k (along_in p.axis p.cells)) c.claim.view_is in
+    ∙ ap (λ (k : ℕ). sample_names k (along_in c.claim.inside.axis c.claim.inside.cells.now)) width
+    ∙ ap (λ (p : ClaimParts). sample_names c.args.header.now.k (along_in p.axis p.cells)) c.claim.view_is in
     let shares : take c.gather_along-count.result c.deref-3.result.now ≡ map (λ m. m.share) (along_in c.args.claim.now.axis c.args.claim.now.cells) =
     ap (take c.gather_along-count.result) (c.deref-3.ensures.value
     ∙ front c.gather_along-count.new.shares _ _ (c.gather_along-count.auto.shares ∙ c.deref_mut-3.ensures.len))

@@ -3,7 +3,7 @@ use Rattle.std.proofs.lemmas.Bool.{false≢true}
 use Rattle.std.proofs.lemmas.Option.{none-some}
 use Rattle.axis_roots.specs.Claims.{ClaimParts, Accepts}
 use Rattle.befp_verify.specs.declared.verifying.FraudRefusal.TheVariants.{Cell, AxisMatches}
-use Rattle.befp_verify.specs.Refusals.{HasCause}
+use Rattle.befp_verify.specs.Refusals.{HasFraudCause}
 use Rattle.befp_verify.proofs.verifying.verify.Goals as goal
 
 -- what is refused isn't accepted
@@ -11,7 +11,7 @@ pub returns-in-Some-clause-accepts : goal.returns-in-Some-clause-accepts
 returns-in-Some-clause-accepts c = (
   λ e. absurd (false≢true e),
   λ accepts. absurd (none-some _ (c.cause_law.ensures c.args.claim None (Some c.in-Some.why) accepts
-      (subst (λ (claim : ClaimParts). HasCause c.args.header.now claim (Some c.in-Some.why)) c.of.ensures c.in-Some.ensures.cause))),
+      (subst (λ (claim : ClaimParts). HasFraudCause c.args.header.now claim (Some c.in-Some.why)) c.of.ensures c.in-Some.ensures.cause))),
 )
 
 -- what is accepted has no cause of a refusal

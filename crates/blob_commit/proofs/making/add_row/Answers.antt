@@ -5,7 +5,7 @@ use Rattle.data_header.specs.DataRoots.{data_root_of}
 use Rattle.axis_roots.specs.Trees.{no_tree}
 use Rattle.blob_commit.specs.Cuts.{cut_by}
 use Rattle.blob_commit.specs.Proofs.{part_of_row}
-use Rattle.blob_commit.specs.Making.{IsRowTree}
+use Rattle.blob_commit.specs.Making.{IsHeaderRowTree}
 use Rattle.blob_commit.proofs.CutLemmas.{few_in_row}
 use Rattle.blob_commit.proofs.CommitOwnLemmas.{row-lt}
 use Rattle.blob_commit.proofs.FitLemmas.{part-pos, some_sizes, row_places}
@@ -23,7 +23,7 @@ make_row-requires-clause-tree c =
     let row : ℕ = c.args.rest.at / c.width-k.result in
     let within : c.args.rest.at + c.args.rest.left ≤ c.width-k.result * c.width-k.result = subst (λ (m : ℕ). c.args.rest.at + c.args.rest.left ≤ m * m) (sym same) c.requires.within in
     let below : row < c.width-k.result = row-lt c.args.rest.at c.width-k.result (omega (arith, within, c.requires.some)) in
-    subst (IsRowTree c.args.roots.now row) (at_place c.args.trees.now row c.index-trees-index.result no_tree (omega (arith, below, same, c.requires.number)) c.index-trees-index.is) (c.requires.trees row (omega (arith, below, same)))
+    subst (IsHeaderRowTree c.args.roots.now row) (at_place c.args.trees.now row c.index-trees-index.result no_tree (omega (arith, below, same, c.requires.number)) c.index-trees-index.is) (c.requires.trees row (omega (arith, below, same)))
 
 pub make_row-requires-clause-some : goal.make_row-requires-clause-some
 make_row-requires-clause-some c =

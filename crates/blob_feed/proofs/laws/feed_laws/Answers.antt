@@ -1,6 +1,6 @@
 use Rattle.std.proofs.Common.{slice_get, subst}
 use Rattle.namespace_id.specs.Names.{IsNamespace}
-use Rattle.square_layout.specs.Layout.{has_name, square_of}
+use Rattle.square_layout.specs.Layout.{has_name, block_square}
 use Rattle.std.specs.List.{filter}
 use Rattle.blob_feed.specs.Filters.{wanted_by}
 use Rattle.blob_feed.specs.Feeds.{heights_of}
@@ -52,5 +52,5 @@ returns-clause-joined g c = λ block name passes is named.
 pub returns-clause-block : goal.returns-clause-block
 returns-clause-block g c = λ rule items number name read header block are fed has own passes is.
     blobs_at c.answer_laws.ensures.own (wanted_by g.F.Filter.answers rule) items number name read header
-    (square_of block) (filter (has_name name) block.blobs) are fed has own
+    (block_square block) (filter (has_name name) block.blobs) are fed has own
     (λ named. returns-clause-joined g c block name passes is named)

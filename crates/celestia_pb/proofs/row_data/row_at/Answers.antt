@@ -1,5 +1,5 @@
 use Rattle.std.proofs.Common.{◌∙◌, true, false, option_map, sym, ap}
-use Rattle.celestia_pb.specs.RowParts.{parts_of}
+use Rattle.celestia_pb.specs.RowParts.{proof_parts}
 use Rattle.celestia_pb.proofs.Steps.{err_reads}
 use Rattle.celestia_pb.proofs.RowDataLemmas.{row_refused, row_found}
 use Rattle.celestia_pb.proofs.row_data.row_at.Goals as goal
@@ -14,11 +14,11 @@ returns-in_err-proof-clause-value c = λ row.
 -- something follows
 pub returns-then-not-is_empty-clause-value : goal.returns-then-not-is_empty-clause-value
 returns-then-not-is_empty-clause-value c = λ row.
-    row_found row c.in_ok-count.count c.args.bytes.now c.in_ok-count.behind.now c.in_ok-count.ensures.value _ (parts_of c.in-Some.proof) c.in_ok-proof.rest.now
-    (ap (option_map parts_of) c.in-Some.is) c.in_ok-proof.ensures.value false (sym c.is_empty.ensures ∙ c.if-not-is_empty.true)
+    row_found row c.in_ok-count.count c.args.bytes.now c.in_ok-count.behind.now c.in_ok-count.ensures.value _ (proof_parts c.in-Some.proof) c.in_ok-proof.rest.now
+    (ap (option_map proof_parts) c.in-Some.is) c.in_ok-proof.ensures.value false (sym c.is_empty.ensures ∙ c.if-not-is_empty.true)
 
 -- nothing does
 pub returns-clause-value : goal.returns-clause-value
 returns-clause-value c = λ row.
-    row_found row c.in_ok-count.count c.args.bytes.now c.in_ok-count.behind.now c.in_ok-count.ensures.value _ (parts_of c.in-Some.proof) c.in_ok-proof.rest.now
-    (ap (option_map parts_of) c.in-Some.is) c.in_ok-proof.ensures.value true (sym c.is_empty.ensures ∙ c.if-not-is_empty.false)
+    row_found row c.in_ok-count.count c.args.bytes.now c.in_ok-count.behind.now c.in_ok-count.ensures.value _ (proof_parts c.in-Some.proof) c.in_ok-proof.rest.now
+    (ap (option_map proof_parts) c.in-Some.is) c.in_ok-proof.ensures.value true (sym c.is_empty.ensures ∙ c.if-not-is_empty.false)

@@ -2,15 +2,15 @@ use Rattle.std.proofs.Common.{◌≡◌, ◌≤◌, ◌+◌, ◌*◌, ◌++◌, 
 use Rattle.std.specs.List.{flat_map}
 use Rattle.namespace_id.specs.declared.namespaces.Namespace.{Namespace}
 use Rattle.namespace_id.specs.Answers.{HasRoom}
-use Rattle.da_attending.specs.Attended.{lines_of}
+use Rattle.da_attending.specs.Attended.{height_lines}
 use Rattle.da_attending.specs.Attenders.{unknown}
 use Rattle.da_attending.proofs.saying.put_missing.Given as goal
 
 -- the lines of the namespaces before were appended
 abbrev pub invariant-loop-name : goal.invariant-loop-name
 invariant-loop-name l = record {
-  lines : l.text.items ++ flat_map (λ (n : Namespace). lines_of l.number n None) (unknown l.known.keys l.rest)
-      ≡ l.fn.text.items ++ flat_map (λ (n : Namespace). lines_of l.number n None) (unknown l.known.keys l.names);
+  lines : l.text.items ++ flat_map (λ (n : Namespace). height_lines l.number n None) (unknown l.known.keys l.rest)
+      ≡ l.fn.text.items ++ flat_map (λ (n : Namespace). height_lines l.number n None) (unknown l.known.keys l.names);
   counted : l.count + length (unknown l.known.keys l.rest) ≡ length (unknown l.known.keys l.names);
   few : l.count + length l.rest ≤ length l.names;
   room : HasRoom l.text (105 * length l.rest);

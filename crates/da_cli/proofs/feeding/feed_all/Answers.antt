@@ -1,6 +1,6 @@
 use Rattle.std.proofs.Common.{◌≡◌, ◌≤◌, ◌∙◌, sym, ap, arith, take, length, length-take-le, refl}
 use Rattle.da_io.specs.Faults.{count_on}
-use Rattle.repair_queue.specs.SessionParts.{StandsFor as SessionStands}
+use Rattle.repair_queue.specs.SessionParts.{SessionStands}
 use Rattle.da_cli.proofs.FeedingLemmas.{end_on, ends_fed, fed_none, fed_on, judged_feeds, failed_feeds, long_feeds, no_fault, told}
 use Rattle.da_cli.proofs.feeding.feed_all.Goals as goal
 

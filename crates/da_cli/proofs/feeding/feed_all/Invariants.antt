@@ -1,5 +1,5 @@
 use Rattle.std.proofs.Common.{◌≡◌, ◌-◌, ◌≤◌}
-use Rattle.repair_queue.specs.SessionParts.{StandsFor as SessionStands}
+use Rattle.repair_queue.specs.SessionParts.{SessionStands}
 use Rattle.da_cli.proofs.FeedingLemmas.{HasFed}
 use Rattle.da_cli.proofs.feeding.feed_all.Given as goal
 

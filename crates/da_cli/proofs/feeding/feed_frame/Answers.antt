@@ -1,5 +1,5 @@
 use Rattle.std.proofs.Common.{ℕ, ◌++◌, take, sym, subst}
-use Rattle.repair_queue.specs.SessionParts.{StandsFor as SessionStands}
+use Rattle.repair_queue.specs.SessionParts.{SessionStands}
 use Rattle.da_wire.specs.declared.streams.Pushed.{Pushed}
 use Rattle.da_wire.specs.Frames.{frames_of}
 use Rattle.da_wire.specs.Streams.{EndsFrame}

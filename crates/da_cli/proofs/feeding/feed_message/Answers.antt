@@ -3,7 +3,7 @@ use Rattle.data_header.specs.Headers.{Roots, AreRoots}
 use Rattle.axis_roots.specs.declared.message.messages.Message.{Message as Sent}
 use Rattle.axis_roots.specs.Messages.{message_refusal}
 use Rattle.axis_roots.specs.Openings.{IsProved}
-use Rattle.repair_queue.specs.SessionParts.{SessionParts, StandsFor as SessionStands}
+use Rattle.repair_queue.specs.SessionParts.{SessionParts, SessionStands}
 use Rattle.da_cli.specs.Feeding.{proved_by}
 use Rattle.da_cli.proofs.FeedingLemmas.{accepted_by, refused_by}
 use Rattle.da_cli.proofs.feeding.feed_message.Goals as goal

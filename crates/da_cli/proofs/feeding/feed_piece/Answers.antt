@@ -1,7 +1,7 @@
 use Rattle.std.proofs.Common.{◌≡◌, ◌<◌, ◌+◌, ◌∙◌, false, eqb, List, ℕ, refl, sym, subst, ap, arith, length, length-drop}
 use Rattle.std.proofs.lemmas.List.{take_rest}
 use Rattle.std.proofs.lemmas.Bool.Decides.{nat_tests}
-use Rattle.repair_queue.specs.SessionParts.{StandsFor as SessionStands}
+use Rattle.repair_queue.specs.SessionParts.{SessionStands}
 use Rattle.da_cli.proofs.FeedingLemmas.{IsPart, part_none, part_on}
 use Rattle.da_cli.proofs.feeding.feed_piece.Goals as goal
 

@@ -1,5 +1,5 @@
 use Rattle.std.proofs.Common.{◌≡◌, ◌+◌, ◌≤◌, length}
-use Rattle.repair_queue.specs.SessionParts.{StandsFor as SessionStands}
+use Rattle.repair_queue.specs.SessionParts.{SessionStands}
 use Rattle.da_cli.proofs.FeedingLemmas.{IsPart}
 use Rattle.da_cli.proofs.feeding.feed_piece.Given as goal
 

@@ -1,13 +1,13 @@
 use Rattle.std.proofs.Common.{[], ◌∷◌, length}
 use Rattle.da_wire.specs.declared.frames.Frame.TheVariants.{Request}
 use Rattle.da_wire.specs.Spelling.{sample_kind, request_kind}
-use Rattle.da_serving.specs.Sample.{sample_of, sample_frame}
+use Rattle.da_serving.specs.Sample.{asked_sample, sample_request}
 use Rattle.da_files.specs.Requests.{namespace_of}
 use Rattle.da_files.proofs.RequestLemmas.{asked_again}
 use Rattle.da_serving.proofs.SampleLemmas.{is_sample_frame}
 use Rattle.da_serving.proofs.NamespaceLemmas.{is_name_frame}
 use Rattle.data_header.specs.DataRoots.{data_root_of}
-use Rattle.square_layout.specs.Layout.{square_of}
+use Rattle.square_layout.specs.Layout.{block_square}
 use Rattle.tx_list.specs.Reads.{list_of}
 use Rattle.tx_list.specs.Lists.{square_of_list}
 use Rattle.da_serving.proofs.BuildLemmas.{both_fine}
@@ -101,7 +101,7 @@ pub returns-clause-answer_file : goal.returns-clause-answer_file
 returns-clause-answer_file c = answer_file c.wire_laws.ensures.only
 
 pub returns-clause-sample_requests : goal.returns-clause-sample_requests
-returns-clause-sample_requests c = λ bytes fits fine. asked_again sample_of sample_frame (sample_kind ∷ []) is_sample_frame bytes (c.value_laws.ensures.values (sample_kind ∷ []) bytes fits fine)
+returns-clause-sample_requests c = λ bytes fits fine. asked_again asked_sample sample_request (sample_kind ∷ []) is_sample_frame bytes (c.value_laws.ensures.values (sample_kind ∷ []) bytes fits fine)
 
 pub returns-clause-namespace_requests : goal.returns-clause-namespace_requests
 returns-clause-namespace_requests c = λ bytes fits fine. asked_again namespace_of Request (request_kind ∷ []) is_name_frame bytes (c.value_laws.ensures.values (request_kind ∷ []) bytes fits fine)
@@ -120,17 +120,17 @@ pub returns-clause-built : goal.returns-clause-built
 returns-clause-built c = λ block is none.
     let square = c.size_laws.ensures.square block none in
     let shares = c.size_laws.ensures.shares block is in
-    square_again c.wire_laws.ensures.only_read (square_of block) square shares (c.wire_laws.ensures.squares (square_of block) square shares)
+    square_again c.wire_laws.ensures.only_read (block_square block) square shares (c.wire_laws.ensures.squares (block_square block) square shares)
 
 -- its namespaces never fall, so its extension has a header
 pub returns-clause-headed : goal.returns-clause-headed
 returns-clause-headed c = λ block is none.
     let square = c.size_laws.ensures.square block none in
-    let grid = c.grid_laws.ensures.extension (square_of block) square (c.size_laws.ensures.shares block is) in
-    let header = some_there (header_of_grid (square_of block).k grid.0)
-    (c.grid_laws.ensures.laid (square_of block) grid.0 square grid.1
+    let grid = c.grid_laws.ensures.extension (block_square block) square (c.size_laws.ensures.shares block is) in
+    let header = some_there (header_of_grid (block_square block).k grid.0)
+    (c.grid_laws.ensures.laid (block_square block) grid.0 square grid.1
     (c.name_laws.ensures.rising block (c.name_laws.ensures.named block none))) in
-    (header.0, c.grid_laws.ensures.header (square_of block) grid.0 header.0 square grid.1 header.1)
+    (header.0, c.grid_laws.ensures.header (block_square block) grid.0 header.0 square grid.1 header.1)
 
 -- so is that of a list of transactions
 pub returns-clause-built_list : goal.returns-clause-built_list

@@ -6,8 +6,8 @@ use Rattle.data_header.specs.Headers.{Roots, AreRoots}
 use Rattle.axis_roots.specs.declared.message.messages.Message.{Message}
 use Rattle.axis_roots.specs.Messages.{message_refusal}
 use Rattle.axis_roots.specs.Openings.{IsProved}
-use Rattle.repair_queue.specs.Answers.{parts_of}
-use Rattle.repair_queue.specs.SessionParts.{StandsFor as SessionStands}
+use Rattle.repair_queue.specs.Answers.{verdict_parts}
+use Rattle.repair_queue.specs.SessionParts.{SessionStands}
 use Rattle.repair_queue.specs.Verdicts.{IsVerdict}
 use Rattle.da_wire.specs.Frames.{frames_of}
 use Rattle.da_status.specs.declared.status.Status.TheVariants.{BadInput}
@@ -26,7 +26,7 @@ give_verdict-requires g c =
     let file = subst (λ (r : Result ℕ ℕ). FeedsFile g.I.Inputs 1 (string_bytes c.args.name) c.args.inputs.now c.feed_file.new.inputs header
     (λ (more : List Message). (ms : List Message) → SessionStands c.args.session ms → SessionStands c.feed_file.new.session (ms ++ more)) (Ok r)) c.in-Ok-fed.is c.in-Ok.ensures.fed in
     let ms : List Message = proved_among header (frames_of file.0) in
-    (ms, subst (λ (h : Roots). IsVerdict h ms (parts_of c.finish.result)) c.in-Ok.ensures.header (c.finish.ensures.verdict ms (file.4 [] c.requires.none)))
+    (ms, subst (λ (h : Roots). IsVerdict h ms (verdict_parts c.finish.result)) c.in-Ok.ensures.header (c.finish.ensures.verdict ms (file.4 [] c.requires.none)))
 
 -- these are the proved samples of its frames
 pub returns-in-Ok-fed : goal.returns-in-Ok-fed
@@ -37,11 +37,11 @@ returns-in-Ok-fed g c =
     let raws = frames_of file.0 in
     let ms : List Message = proved_among header raws in
     let verdict = c.finish.result in
-    let is = subst (λ (h : Roots). IsVerdict h ms (parts_of verdict)) c.in-Ok.ensures.header (c.finish.ensures.verdict ms (file.4 [] c.requires.none)) in
+    let is = subst (λ (h : Roots). IsVerdict h ms (verdict_parts verdict)) c.in-Ok.ensures.header (c.finish.ensures.verdict ms (file.4 [] c.requires.none)) in
     let roots : AreRoots header = subst AreRoots c.header.view_is c.header.invariant in
     let accepted : (m : Message) → IsProved header m → message_refusal header m ≡ None = λ m proved. (c.message_laws.ensures.refusal header m roots proved.sized).1 proved in
     let ends = once_within _ (Repairs header raws) _ _ _ _ _ _
-    (repairs c.verdict_laws.ensures.same_proved header raws ms c.in-Ok-fed.lies verdict (parts_of verdict) refl (c.fed_laws.ensures.only header raws) (c.fed_laws.ensures.all header accepted raws)
+    (repairs c.verdict_laws.ensures.same_proved header raws ms c.in-Ok-fed.lies verdict (verdict_parts verdict) refl (c.fed_laws.ensures.only header raws) (c.fed_laws.ensures.all header accepted raws)
     (file.3 ∙ c.fed_laws.ensures.lies header raws) is) c.give_verdict.ensures in (
       file.0,
       file.1,

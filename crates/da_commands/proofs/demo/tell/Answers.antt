@@ -1,6 +1,6 @@
 use Rattle.std.proofs.Common.{◌∙◌, ℕ, refl, ap, arith}
 use Rattle.da_io.specs.Faults.{count_on}
-use Rattle.da_commands.specs.Demo.{Tells}
+use Rattle.da_commands.specs.Demo.{TellsTrial}
 use Rattle.da_status.proofs.WriteLemmas.{written_on, written_part}
 use Rattle.da_status.proofs.EndLemmas.{ends_in_fault, once_fault, once_output}
 use Rattle.da_commands.proofs.Answering.DemoLemmas.{line_next, tells_done}
@@ -10,7 +10,7 @@ use Rattle.da_commands.proofs.demo.tell.Goals as goal
 pub returns-in_default : goal.returns-in_default
 returns-in_default g c =
     let next = line_next c.args.trial.now c.loop-i.i c.as_bytes.result.now (omega arith) (c.as_bytes.ensures ∙ c.line_at-line.ensures) in
-    once_fault (Tells c.args.trial.now) _ _ _ _ _ (ends_in_fault (Tells c.args.trial.now) _ _ _ _ _ _ _ (refl, refl)
+    once_fault (TellsTrial c.args.trial.now) _ _ _ _ _ (ends_in_fault (TellsTrial c.args.trial.now) _ _ _ _ _ _ _ (refl, refl)
     (written_part _ _ _ _ _ _ _ c.loop-i.invariant.lines next c.in_default.ensures.taken)
     (c.in_default.ensures.faults ∙ ap (λ (n : ℕ). count_on n 1) c.loop-i.invariant.faults)
     (λ s. c.in_default.ensures.told.0 (c.loop-i.invariant.told.0 s), λ s. c.loop-i.invariant.told.1 (c.in_default.ensures.told.1 s)))
@@ -26,5 +26,5 @@ loop-i-preserved g c =
 
 pub returns : goal.returns
 returns g c =
-    once_output (Tells c.args.trial.now) _ _ _ _ _ _ refl
+    once_output (TellsTrial c.args.trial.now) _ _ _ _ _ _ refl
     (tells_done c.args.trial.now c.loop-i.i _ _ _ _ _ (omega arith) c.loop-i.invariant.lines c.loop-i.invariant.faults c.loop-i.invariant.told)

@@ -1,7 +1,7 @@
 use Rattle.std.proofs.Common.{◌∙◌, ◌++◌, ℕ, List, refl, sym, ap}
 use Rattle.da_io.specs.Faults.{count_on}
 use Rattle.da_wire.specs.Values.{values_of}
-use Rattle.da_commands.specs.Show.{all_kinds, shown_as, all_shown, Shows}
+use Rattle.da_commands.specs.Show.{all_kinds, shown_as, all_shown, ShowsFrames}
 use Rattle.da_status.specs.declared.status.Status.TheVariants.{Done, NoMemory}
 use Rattle.da_status.proofs.WriteLemmas.{gathered_on, gathered_part}
 use Rattle.da_status.proofs.EndLemmas.{ends_in_fault}
@@ -36,7 +36,7 @@ returns-in_default-add g c =
     let shown = shown_as c.args.form in
     let first = line_first shown c.loop-found.rest.now _ c.in-Ok.found c.in-Some.more c.in-Some.is c.in-Ok.ensures.line in
     let next = first ∙ ap (λ (l : List ℕ). l ++ all_shown shown c.in-Some.more.now) (sym c.as_bytes.ensures.value) in
-    ends_in_fault (Shows shown (values_of all_kinds c.args.frames.now)) _ _ _ _ _ _ _ (refl, refl)
+    ends_in_fault (ShowsFrames shown (values_of all_kinds c.args.frames.now)) _ _ _ _ _ _ _ (refl, refl)
     (gathered_part _ _ _ _ _ _ _ _ c.loop-found.invariant.shown next c.in_default-add.ensures.taken)
     (c.in_default-add.ensures.faults ∙ ap (λ (n : ℕ). count_on n 1) c.loop-found.invariant.faults)
     (λ s. c.in_default-add.ensures.told.0 (c.loop-found.invariant.told.0 s), λ s. c.loop-found.invariant.told.1 (c.in_default-add.ensures.told.1 s))

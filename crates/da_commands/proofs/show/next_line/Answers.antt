@@ -1,6 +1,6 @@
 use Rattle.std.proofs.Common.{◌∙◌, ◌++◌, ℕ, List, ap}
 use Rattle.da_wire.specs.Values.{values_of}
-use Rattle.da_commands.specs.Show.{all_kinds, shown_as, line_of}
+use Rattle.da_commands.specs.Show.{all_kinds, shown_as, shown_line}
 use Rattle.da_commands.proofs.Answering.ShowLemmas.{brief_front, brief_some, next_shown, shown-first, shown_found}
 use Rattle.da_commands.proofs.show.next_line.Goals as goal
 
@@ -23,4 +23,4 @@ returns-clause-line c =
     let bytes = c.args.bytes.now in
     let first = brief_front bytes c.in-Ok.found c.in-Some.brief c.in-Some.more c.in-Some.is c.in-Ok.ensures.after c.in-Ok.ensures.shorter in
     next_shown shown (values_of all_kinds bytes) (values_of all_kinds c.in-Some.more.now) first.0 _ first.1.1
-    (c.in-Ok-put.ensures first.0 first.1.0 ∙ ap (λ (l : List ℕ). l ++ line_of shown first.0) c.clear.ensures.bytes)
+    (c.in-Ok-put.ensures first.0 first.1.0 ∙ ap (λ (l : List ℕ). l ++ shown_line shown first.0) c.clear.ensures.bytes)

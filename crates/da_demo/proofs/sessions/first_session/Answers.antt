@@ -1,7 +1,7 @@
 use Rattle.std.proofs.Common.{subst, rules}
 use Rattle.data_header.specs.Headers.{Roots}
 use Rattle.repair_queue.specs.Verdicts.{IsVerdict}
-use Rattle.repair_queue.specs.Answers.{parts_of}
+use Rattle.repair_queue.specs.Answers.{verdict_parts}
 use Rattle.da_demo.specs.Sessions.{proved_of, first_messages}
 use Rattle.da_demo.proofs.sessions.first_session.Goals as goal
 
@@ -15,8 +15,8 @@ returns c =
       root = search rules;
       proved = fed.proved;
       lies = fed.lies;
-      verdict = parts_of c.finish.result;
-      answers = subst (λ (h : Roots). IsVerdict h (proved_of c.in_ok-header.header (first_messages c.args.grid.now.k c.args.grid.now.shares)) (parts_of c.finish.result))
+      verdict = verdict_parts c.finish.result;
+      answers = subst (λ (h : Roots). IsVerdict h (proved_of c.in_ok-header.header (first_messages c.args.grid.now.k c.args.grid.now.shares)) (verdict_parts c.finish.result))
           fed.under (c.finish.ensures.verdict _ fed.fed);
       outcome = c.tell-outcome.ensures.outcome;
     }

@@ -1,7 +1,7 @@
 use Rattle.std.proofs.Common.{subst, rules}
 use Rattle.data_header.specs.Headers.{Roots}
 use Rattle.repair_queue.specs.Verdicts.{IsVerdict}
-use Rattle.repair_queue.specs.Answers.{parts_of}
+use Rattle.repair_queue.specs.Answers.{verdict_parts}
 use Rattle.da_demo.specs.Sessions.{proved_of, second_messages}
 use Rattle.da_demo.proofs.sessions.second_session.Goals as goal
 
@@ -12,8 +12,8 @@ returns c =
     record {
       header = c.in_ok-header.header;
       own = search rules;
-      verdict = parts_of c.finish.result;
-      answers = subst (λ (h : Roots). IsVerdict h (proved_of c.in_ok-header.header (second_messages c.args.grid.now.k c.args.grid.now.shares)) (parts_of c.finish.result))
+      verdict = verdict_parts c.finish.result;
+      answers = subst (λ (h : Roots). IsVerdict h (proved_of c.in_ok-header.header (second_messages c.args.grid.now.k c.args.grid.now.shares)) (verdict_parts c.finish.result))
           fed.under (c.finish.ensures.verdict _ fed.fed);
       told = c.tell-outcome.ensures.outcome;
       judged = search rules;

@@ -1,6 +1,6 @@
 use Rattle.std.proofs.Common.{◌∙◌, inl, inr}
 use Rattle.std.specs.List.{Contains}
-use Rattle.share_split.specs.Walks.{blobs_of}
+use Rattle.share_split.specs.Walks.{blobs_joined}
 use Rattle.tx_list.specs.Lists.{square_of_list}
 use Rattle.blob_feed.specs.Feeds.{shares_in}
 use Rattle.da_following.specs.Follow.{items_in}
@@ -29,6 +29,6 @@ pub returns-clause-followed : goal.returns-clause-followed
 returns-clause-followed c = λ wanted answers feed number name read header list fits is has at own are.
     let square = square_of_list list in
     let blob = fed_blob (Contains wanted) (items_in answers) feed number name read is has in
-    read_or read (blobs_of (shares_in square name)) (listed_blobs list name)
+    read_or read (blobs_joined (shares_in square name)) (listed_blobs list name)
     (named_read square name (listed_blobs list name) own.whole (c.namespace_laws.ensures.order list name are blob))
     (c.follow_laws.ensures.own wanted answers feed number name read header square fits is has at own)

@@ -5,7 +5,7 @@ use Rattle.nmt_tree.specs.Queues.{queued}
 use Rattle.axis_roots.specs.Messages.{shown_leaf}
 use Rattle.da_wire.specs.Reading.{raw_seen}
 use Rattle.da_wire.specs.Frames.{frames_of}
-use Rattle.da_judging.specs.Ahead.{IsShownBy}
+use Rattle.da_judging.specs.Ahead.{IsLeafDigestOf}
 use Rattle.da_judging.proofs.AheadLemmas.{leads_on, leads_all}
 use Rattle.da_judging.proofs.ahead.fill.Goals as goal
 
@@ -25,7 +25,7 @@ returns c = leads_all c.args.k (queued c.frames.queue) (frames_of c.frames.rest.
 pub frames-preserved : goal.frames-preserved
 frames-preserved c =
     let share = c.in-Some-shown.share in
-    let shown : IsShownBy c.args.k (leaf_digest c.leaf_namespace.result share) (raw_seen c.in-Some.frame) = λ m is.
+    let shown : IsLeafDigestOf c.args.k (leaf_digest c.leaf_namespace.result share) (raw_seen c.in-Some.frame) = λ m is.
     let parts = c.in-Some-shown.ensures.sample m is in
     ap (λ (name : Namespace). leaf_digest name share) c.leaf_namespace.ensures ∙ ap₂ (shown_leaf c.args.k) parts.0 parts.1 in
     leads_on c.args.k c.frames.queue c.add.new.self (leaf_digest c.leaf_namespace.result share) (raw_seen c.in-Some.frame)

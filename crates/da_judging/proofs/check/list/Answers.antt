@@ -5,7 +5,7 @@ use Rattle.da_io.specs.Faults.{count_on}
 use Rattle.da_wire.specs.Reading.{raw_seen}
 use Rattle.da_wire.specs.Frames.{frames_of}
 use Rattle.da_judging.specs.Ahead.{IsNextAhead}
-use Rattle.da_judging.specs.Check.{Lists, lines_of}
+use Rattle.da_judging.specs.Check.{Lists, check_lines}
 use Rattle.da_status.proofs.WriteLemmas.{written_part, gathered_on, gathered_part}
 use Rattle.da_status.proofs.EndLemmas.{ends_in_fault, once_fault}
 use Rattle.da_judging.proofs.AheadLemmas.{new_ahead, next_shown, next_ahead}
@@ -64,6 +64,6 @@ pub returns-in-Err : goal.returns-in-Err
 returns-in-Err g c =
     once_fault (Lists c.args.header.now (frames_of c.args.messages.now)) _ _ _ _ _
     (ends_in_fault (Lists c.args.header.now (frames_of c.args.messages.now)) _ _ _ _ _ _ _ (refl, refl)
-    (written_part _ _ _ _ _ c.loop-frame.room (lines_of c.args.header.now (frames_of c.loop-frame.rest.now)) c.loop-frame.invariant.lines refl c.in-Err.ensures.taken)
+    (written_part _ _ _ _ _ c.loop-frame.room (check_lines c.args.header.now (frames_of c.loop-frame.rest.now)) c.loop-frame.invariant.lines refl c.in-Err.ensures.taken)
     (c.in-Err.ensures.faults ∙ ap (λ (n : ℕ). count_on n 1) c.loop-frame.invariant.faults)
     (λ s. c.in-Err.ensures.told.0 (c.loop-frame.invariant.told.0 s), λ s. c.loop-frame.invariant.told.1 (c.in-Err.ensures.told.1 s)))

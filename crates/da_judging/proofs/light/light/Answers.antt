@@ -3,7 +3,7 @@ use Rattle.namespace_id.specs.Cells.{is_width}
 use Rattle.data_header.specs.Headers.{Roots}
 use Rattle.sampling.specs.Draws.{draw_limit, drawn_cells}
 use Rattle.da_wire.specs.Frames.{frames_of}
-use Rattle.da_judging.specs.Light.{Answers, Lights}
+use Rattle.da_judging.specs.Light.{GivesLight, Lights}
 use Rattle.da_status.proofs.EndLemmas.{once_within}
 use Rattle.da_judging.proofs.LightLemmas.{verdict_output, lights_verdict}
 use Rattle.da_judging.proofs.light.light.Goals as goal
@@ -19,7 +19,7 @@ pub returns-in-Ok-verdict : goal.returns-in-Ok-verdict
 returns-in-Ok-verdict g c =
     let raws = frames_of c.args.messages.now in
     let width = ap (λ (header : Roots). header.k) c.header.view_is in
-    once_within (Answers c.in-Ok-verdict.light) (Lights c.args.key.now c.args.count c.args.header.now raws) _ _ _ _ _ _
+    once_within (GivesLight c.in-Ok-verdict.light) (Lights c.args.key.now c.args.count c.args.header.now raws) _ _ _ _ _ _
     (lights_verdict c.args.key.now c.args.count c.args.header.now _ raws c.in-Ok-verdict.light
     (λ over.
     let above = subst (λ (k : ℕ). draw_limit k < c.args.count) (sym width) over in

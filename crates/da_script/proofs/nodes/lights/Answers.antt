@@ -5,7 +5,7 @@ use Rattle.sampling.specs.Draws.{draw_limit, drawn_cells}
 use Rattle.light_node.specs.Nodes.{NodeParts}
 use Rattle.da_script.specs.Scripts.{draws_at}
 use Rattle.da_net.specs.Networks.{light}
-use Rattle.da_net.specs.Nodes.{IsFresh}
+use Rattle.da_net.specs.Nodes.{IsFreshNode}
 use Rattle.da_script.specs.Plays.{light_of}
 use Rattle.da_script.specs.Parts.{is_wide}
 use Rattle.da_script.proofs.DrawLemmas.{draw_in, draws_next, draws_none, none_found, made_more, made_all, all_push}
@@ -39,8 +39,8 @@ loop-preserved g c =
       size = omega (arith, c.loop.invariant.size, c.loop-test.true, ap length c.next_draw-rest.ensures, length-drop 34 rest);
       few = ap (λ (l : List ℕ). list_any (is_wide k) (draws_at left l)) c.next_draw-rest.ensures
           ∙ (none_found (is_wide k) (draw_in rest) _ _ next c.loop.invariant.few).1;
-      fresh = subst (AllByRecursion (IsFresh g.F.Picker.picks c.args.header.now)) (sym c.in-Ok.ensures.items)
-          (all_push (IsFresh g.F.Picker.picks c.args.header.now) c.loop.nodes.items c.in_ok-node.node c.loop.invariant.fresh c.in_ok-node.ensures.fresh);
+      fresh = subst (AllByRecursion (IsFreshNode g.F.Picker.picks c.args.header.now)) (sym c.in-Ok.ensures.items)
+          (all_push (IsFreshNode g.F.Picker.picks c.args.header.now) c.loop.nodes.items c.in_ok-node.node c.loop.invariant.fresh c.in_ok-node.ensures.fresh);
       kinds = ap₂ (λ (ns : List (NodeParts g.row.F.Denot)) (l : List ℕ). map (λ n. light n.wanted) ns ++ map (light_of k) (draws_at left l)) c.in-Ok.ensures.items
           c.next_draw-rest.ensures
           ∙ kinds;

@@ -3,7 +3,7 @@ use Rattle.da_wire.specs.declared.frames.RawFrame.{RawFrame}
 use Rattle.da_wire.specs.Frames.{frames_of}
 use Rattle.da_script.specs.Plays.{items_in}
 use Rattle.da_script.specs.Scripts.{bad_script, moves_of}
-use Rattle.da_script.specs.Parts.{AreItems, payload_sizes, IsPlayed}
+use Rattle.da_script.specs.Parts.{AreFramesOf, payload_sizes, IsPlayed}
 use Rattle.da_script.proofs.CountLemmas.{item_count}
 use Rattle.da_script.proofs.OutcomeLemmas.{played_plays}
 use Rattle.da_script.proofs.playing.play_with.Goals as goal
@@ -26,4 +26,4 @@ returns g c =
     (ap (λ (n : ℕ). bad_script n c.args.script.now) (sym count) ∙ sym c.bad_script.ensures ∙ c.in_default.is)
     (subst (λ (sizes : List ℕ). IsPlayed c.args.header sizes items (moves_of (length items) c.args.script.now) c.args.script.now c.play_moves.result)
     (ap payload_sizes c.deref.ensures.value ∙ c.in_ok-frames.ensures.sizes)
-    (c.play_moves.ensures items (subst (λ (l : List RawFrame). AreItems l items) (sym c.deref.ensures.value) c.in_ok-frames.ensures.items)))
+    (c.play_moves.ensures items (subst (λ (l : List RawFrame). AreFramesOf l items) (sym c.deref.ensures.value) c.in_ok-frames.ensures.items)))

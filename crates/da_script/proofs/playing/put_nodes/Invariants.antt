@@ -1,5 +1,5 @@
 use Rattle.std.proofs.Common.{◌≡◌}
-use Rattle.da_script.specs.Plays.{AreLines}
+use Rattle.da_script.specs.Plays.{AreNodeLines}
 use Rattle.da_script.specs.Parts.{Adds}
 use Rattle.da_script.proofs.playing.put_nodes.Given as goal
 
@@ -7,5 +7,5 @@ use Rattle.da_script.proofs.playing.put_nodes.Given as goal
 abbrev pub invariant-loop-node : goal.invariant-loop-node
 invariant-loop-node g l = record {
   room : l.room.k ≡ l.net.header.k;
-  lines : Adds (AreLines l.net l.node) l.fn.text.items l.text.items;
+  lines : Adds (AreNodeLines l.net l.node) l.fn.text.items l.text.items;
 }

@@ -1,6 +1,6 @@
 use Rattle.std.proofs.Common.{arith}
 use Rattle.da_files.specs.Frames.{Writes}
-use Rattle.da_serving.specs.Blobs.{Joins}
+use Rattle.da_serving.specs.Blobs.{JoinsShares}
 use Rattle.da_status.proofs.EndLemmas.{once_within}
 use Rattle.da_serving.proofs.BlobsLemmas.{blobs_fit, joins_blobs}
 use Rattle.da_serving.proofs.blobs.give_blobs.Goals as goal
@@ -13,5 +13,5 @@ block_frame-requires g c =
 -- what is written is the frame of the blobs
 pub returns-in-Ok : goal.returns-in-Ok
 returns-in-Ok g c =
-    once_within (Writes c.block_frame.result) (Joins c.args.shares.now) _ _ _ _ _ _
+    once_within (Writes c.block_frame.result) (JoinsShares c.args.shares.now) _ _ _ _ _ _
     (joins_blobs c.args.shares.now c.in-Ok.blobs.items c.block_frame.result c.in-Ok.ensures.read c.block_frame.ensures.value) c.give.ensures

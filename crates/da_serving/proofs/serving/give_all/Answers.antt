@@ -1,7 +1,7 @@
 use Rattle.std.proofs.Common.{◌≡◌, ◌∙◌, true, refl, sym, subst}
 use Rattle.std.specs.List.{AllByRecursion}
 use Rattle.da_serving.specs.Choices.{HasFrame}
-use Rattle.da_serving.specs.Serving.{IsMade, Serves}
+use Rattle.da_serving.specs.Serving.{IsMadeServer, Serves}
 use Rattle.da_status.proofs.EndLemmas.{ends_request}
 use Rattle.da_files.proofs.RequestLemmas.{all_pass}
 use Rattle.da_serving.proofs.ServingLemmas.{served_none, served_on, served_stopped, served_memory, served_all, serves_ends, serves_none}
@@ -14,13 +14,13 @@ returns-in-Ok-None g c =
     let asked = g.S.Server.asked c.args.requests.now in
     ends_request (Serves square (g.S.Server.passes square) (g.S.Server.allows square) asked) _ _ _ _ refl
     (serves_none square (g.S.Server.passes square) (g.S.Server.allows square) asked
-    (subst (IsMade g.S.Server.serves square) c.in-Ok-None.field-0-is c.in-Ok-None.ensures)) refl
+    (subst (IsMadeServer g.S.Server.serves square) c.in-Ok-None.field-0-is c.in-Ok-None.ensures)) refl
 
 -- under its header all requests allow a frame each
 pub loop-next-init : goal.loop-next-init
 loop-next-init g c =
     let square = c.args.square in
-    let made = subst (IsMade g.S.Server.serves square) c.in-Ok-Some.field-0-is c.in-Ok-Some.ensures in
+    let made = subst (IsMadeServer g.S.Server.serves square) c.in-Ok-Some.field-0-is c.in-Ok-Some.ensures in
     let pass = all_pass (g.S.Server.passes square) 0 _ c.requires in
     record {
       under = (made.0, made.1, made.2, served_none (g.S.Server.allows square made.0) _ _, c.law.ensures square made.0 made.1 pass);

@@ -5,7 +5,7 @@ use Rattle.std.specs.Io.KnownBytes.{IsAtEnd}
 use Rattle.da_wire.specs.declared.frames.FrameError.{FrameError}
 use Rattle.da_wire.specs.declared.frames.FrameError.TheVariants as frame
 use Rattle.da_wire.specs.Frames.{frames_of, bad_frame}
-use Rattle.da_wire.specs.Streams.{first_refusal, offset_of}
+use Rattle.da_wire.specs.Streams.{why_no_frame, offset_of}
 use Rattle.da_talk.proofs.EventLemmas.{IsLine}
 use Rattle.da_talk.proofs.LongLemmas.{ends_bad}
 use Rattle.da_talk.proofs.TellLemmas.{told_bad, told_all, told_last}
@@ -15,7 +15,7 @@ use Rattle.da_talk.proofs.talking.at_end.Goals as goal
 pub returns-in-Some-clause-told : goal.returns-in-Some-clause-told
 returns-in-Some-clause-told g c = λ old first kept s over.
     told_bad g.L.Line g.T.Talker old c.args.line.now first c.args.talker.now c.args.frames.now kept c.offset.result s
-    (subst (λ (n : ℕ). (first_refusal s.taken ≡ Some (frame.TooLong n)) ⊎ (first_refusal s.taken ≡ Some (frame.Truncated n))) (sym c.offset.ensures)
+    (subst (λ (n : ℕ). (why_no_frame s.taken ≡ Some (frame.TooLong n)) ⊎ (why_no_frame s.taken ≡ Some (frame.Truncated n))) (sym c.offset.ensures)
     (ends_bad s.taken c.in-Some.error (sym (c.end.ensures.refusal s.taken s.stands) ∙ c.in-Some.is))) over
 
 -- all bytes are whole frames, and the last words were said

@@ -1,6 +1,6 @@
 use Rattle.std.proofs.Common.{◌≤◌, ◌∙◌, ◌+◌, ℕ, List, sym, ap, subst, length, take, drop, arith, length-drop}
 use Rattle.std.proofs.lemmas.List.{take_rest}
-use Rattle.da_wire.specs.StreamParts.{Keeps}
+use Rattle.da_wire.specs.StreamParts.{KeepsFront}
 use Rattle.da_wire.proofs.TakingLemmas.{taken_all, taken_head, taken_long, taken_body, keeps_on}
 use Rattle.da_wire.proofs.streams.take_some.Goals as goal
 use Rattle.da_wire.proofs.streams.take_some.Goals.{then-have-via-then-have, then-have-via-else-have+then-is_long-2}
@@ -35,7 +35,7 @@ pub returns-clause-kept : goal.returns-clause-kept
 returns-clause-kept c =
     let rest = take_rest c.args.piece.now c.fill-head.result in
     let body : c.fill.result ≤ length (drop c.fill-head.result c.args.piece.now) = omega (arith, c.fill.ensures.count, ap length rest) in
-    let second = subst (λ (l : List ℕ). Keeps (length c.fill-head.new.front) c.fill-head.new.front c.fill.new.front (c.args.have + c.fill-head.result) (take c.fill.result l)) rest c.fill.ensures.kept in
-    let second_here = subst (λ (n : ℕ). Keeps n c.fill-head.new.front c.fill.new.front (c.args.have + c.fill-head.result) (take c.fill.result (drop c.fill-head.result c.args.piece.now))) c.fill-head.auto.front second in
+    let second = subst (λ (l : List ℕ). KeepsFront (length c.fill-head.new.front) c.fill-head.new.front c.fill.new.front (c.args.have + c.fill-head.result) (take c.fill.result l)) rest c.fill.ensures.kept in
+    let second_here = subst (λ (n : ℕ). KeepsFront n c.fill-head.new.front c.fill.new.front (c.args.have + c.fill-head.result) (take c.fill.result (drop c.fill-head.result c.args.piece.now))) c.fill-head.auto.front second in
     keeps_on (length c.args.front.now) c.args.have c.fill-head.result c.fill.result c.args.front.now c.fill-head.new.front c.fill.new.front c.args.piece.now
     (omega (arith, c.fill-head.ensures.count)) body c.fill-head.ensures.kept second_here

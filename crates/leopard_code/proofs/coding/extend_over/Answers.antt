@@ -1,6 +1,6 @@
 use Rattle.std.proofs.Common.{◌≡◌, ◌∙◌, ◌++◌, ℕ, List, length, sym, subst, arith, IsTrue}
 use Rattle.namespace_id.specs.declared.shares.Share.{Share}
-use Rattle.lch_fft.specs.Readings.{Reading}
+use Rattle.lch_fft.specs.Readings.{LabelReading}
 use Rattle.lch_fft.specs.Transforms.{is_count, Evaluates}
 use Rattle.leopard_code.specs.Codewords.{IsCodewordOver}
 use Rattle.leopard_code.proofs.CodeLemmas.{code_count, code_fits}
@@ -29,7 +29,7 @@ returns g c =
     let r = g.M.Factor.reading in
     let back : Evaluates g.M.Factor.reading c.args.k c.inverse.new.shares c.args.originals.now =
     subst (λ (l : List Share). Evaluates g.M.Factor.reading c.args.k c.inverse.new.shares l) c.copy_from_slice.ensures.after c.inverse.ensures.evaluates in
-    subst (λ (s : Reading). IsCodewordOver s c.args.k (c.args.originals.now ++ c.forward.new.shares)) c.requires.reading
+    subst (λ (s : LabelReading). IsCodewordOver s c.args.k (c.args.originals.now ++ c.forward.new.shares)) c.requires.reading
     (codeword_by_transforms r g.met.M.Factor.laws c.args.k c.args.originals.now c.inverse.new.shares c.forward.new.shares
     (code_count c.args.k c.requires.width) (code_fits r c.args.k c.requires.width c.requires.reading)
     c.requires.originals c.shares_law.ensures c.shares_law-2.ensures c.shares_law-3.ensures back c.forward.ensures)

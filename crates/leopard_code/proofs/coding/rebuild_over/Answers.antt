@@ -1,5 +1,5 @@
 use Rattle.std.proofs.Common.{◌≡◌, ◌*◌, ◌<◌, ℕ, length, get_or, sym, subst, arith, IsTrue}
-use Rattle.lch_fft.specs.Readings.{Reading}
+use Rattle.lch_fft.specs.Readings.{LabelReading}
 use Rattle.lch_fft.specs.Transforms.{is_count}
 use Rattle.leopard_code.specs.Codewords.{are_positions, IsCodewordOver}
 use Rattle.leopard_code.specs.Locators.{missing_from, label_of_power, apart_from}
@@ -38,7 +38,7 @@ returns-clause-codeword g c =
     let r = g.M.Factor.reading in
     let k : ℕ = c.args.k in
     let value : ℕ → ℕ = λ x. label_of_power r.field (get_or c.locate.new.exponents x 0) in
-    subst (λ (s : Reading). IsCodewordOver s c.args.k c.place.new.all) c.requires.reading
+    subst (λ (s : LabelReading). IsCodewordOver s c.args.k c.place.new.all) c.requires.reading
     (rebuilt_codeword r g.met.M.Factor.laws k c.args.known.now c.args.shares.now value c.clear_all.new.shares
     c.add_multiples.new.all c.differentiate.new.shares c.divide_missing.new.all c.place.new.all
     (record {

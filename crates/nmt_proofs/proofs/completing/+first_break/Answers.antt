@@ -1,13 +1,13 @@
 use Rattle.std.proofs.Common.{◌≡◌, ◌∙◌, ap, sym, refl, length, arith, ◌+◌, cond, Bool, Some, None}
 use Rattle.nmt_proofs.specs.Openings.{outside}
-use Rattle.nmt_proofs.specs.Pieces.{shown}
+use Rattle.nmt_proofs.specs.Pieces.{shown_pieces}
 use Rattle.nmt_proofs.proofs.Parts.StepLemmas.{outside_none, outside_shown, halved, is_none, is_some, left_count, right_count}
 use Rattle.nmt_proofs.proofs.Agreement.BreakLemmas.{first_break-only, first_break-nothing, first_break-left, first_break-right}
 use Rattle.nmt_proofs.proofs.completing.+first_break.Goals as goal
 
 pub bounds-nodes-0 : goal.bounds-nodes-0
 bounds-nodes-0 t c =
-    let one : length (outside c.args.depth c.args.start (shown c.args.pieces.now)) ≡ 1 =
+    let one : length (outside c.args.depth c.args.start (shown_pieces c.args.pieces.now)) ≡ 1 =
     ap length (outside_none c.args.depth c.args.start c.args.pieces.now (is_none _ _ c.is_empty.ensures c.if-is_empty.true)) in
     omega arith
 

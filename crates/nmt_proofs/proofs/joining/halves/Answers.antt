@@ -1,16 +1,16 @@
 use Rattle.std.proofs.Common.{arith}
-use Rattle.nmt_proofs.specs.Pieces.{shown}
+use Rattle.nmt_proofs.specs.Pieces.{shown_pieces}
 use Rattle.nmt_proofs.proofs.Parts.StepLemmas.{deep, outside_halves, opened_halves, twice_half}
 use Rattle.nmt_proofs.proofs.joining.halves.Goals as goal
 
 pub overflow_sub-depth : goal.overflow_sub-depth
-overflow_sub-depth c = omega (arith, deep c.args.depth (shown c.args.pieces.now) c.requires.halved)
+overflow_sub-depth c = omega (arith, deep c.args.depth (shown_pieces c.args.pieces.now) c.requires.halved)
 
 pub returns-clause-depth : goal.returns-clause-depth
-returns-clause-depth c = deep c.args.depth (shown c.args.pieces.now) c.requires.halved
+returns-clause-depth c = deep c.args.depth (shown_pieces c.args.pieces.now) c.requires.halved
 
 pub returns-clause-size : goal.returns-clause-size
-returns-clause-size c = twice_half c.args.depth (deep c.args.depth (shown c.args.pieces.now) c.requires.halved)
+returns-clause-size c = twice_half c.args.depth (deep c.args.depth (shown_pieces c.args.pieces.now) c.requires.halved)
 
 pub returns-clause-outside : goal.returns-clause-outside
 returns-clause-outside c =

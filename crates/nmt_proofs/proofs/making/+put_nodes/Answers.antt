@@ -3,7 +3,7 @@ use Rattle.nmt_tree.specs.Roots.{is_leaf_count, halvings}
 use Rattle.nmt_tree.specs.Levels.{span}
 use Rattle.nmt_tree.proofs.CountLemmas.{leaf_count_power}
 use Rattle.nmt_proofs.specs.Openings.{outside}
-use Rattle.nmt_proofs.specs.Pieces.{shown}
+use Rattle.nmt_proofs.specs.Pieces.{shown_pieces}
 use Rattle.nmt_proofs.proofs.Parts.StepLemmas.{outside_none, outside_shown, halved, is_none, is_some, left_count, right_count}
 use Rattle.nmt_proofs.proofs.Agreement.PutLemmas.{halved_nodes, one_node, no_node, left_aligned, right_aligned}
 use Rattle.nmt_proofs.proofs.making.+put_nodes.Goals as goal
@@ -14,7 +14,7 @@ full_digest-requires-clause-size t c =
 
 pub bounds-nodes-0 : goal.bounds-nodes-0
 bounds-nodes-0 t c =
-    let one : length (outside c.args.depth c.args.start (shown c.args.pieces.now)) ≡ 1 =
+    let one : length (outside c.args.depth c.args.start (shown_pieces c.args.pieces.now)) ≡ 1 =
     ap length (outside_none c.args.depth c.args.start c.args.pieces.now (is_none _ _ c.is_empty.ensures c.if-is_empty.true)) in
     omega arith
 

@@ -10,7 +10,7 @@ use Rattle.nmt_tree.proofs.CountLemmas.{leaf_count-le, power_halvings}
 use Rattle.nmt_proofs.specs.Openings.{outside, Opens}
 use Rattle.nmt_proofs.specs.Places.{AreAligned}
 use Rattle.nmt_proofs.specs.Making.{spans, interval_digests, subtrees, subtree_nodes}
-use Rattle.nmt_proofs.specs.Pieces.{shown}
+use Rattle.nmt_proofs.specs.Pieces.{shown_pieces}
 use Rattle.nmt_proofs.proofs.Sets.SetLemmas.{aligned_few, aligned_within}
 use Rattle.nmt_proofs.proofs.Sets.TileLemmas.{intervals_open}
 use Rattle.nmt_proofs.proofs.Sets.TileCountLemmas.{intervals_few, outside_intervals, length-interval_digests}
@@ -35,7 +35,7 @@ pub nodes_beside-requires-clause-few : goal.nodes_beside-requires-clause-few
 nodes_beside-requires-clause-few c =
     let depth : c.halvings-depth.result ≡ halvings c.args.tree.now.count = c.halvings-depth.ensures.value ∙ ap (λ (k : ℕ). halvings k) c.len.ensures.value in
     let power : c.args.tree.now.count ≡ 2 ^ halvings c.args.tree.now.count = sym (power_halvings c.args.tree.now.count c.len.ensures.count) in
-    subst (λ (n : ℕ). length (outside n 0 (shown c.put_sizes.new.pieces)) ≤ 2 * most_depth) (sym depth)
+    subst (λ (n : ℕ). length (outside n 0 (shown_pieces c.put_sizes.new.pieces)) ≤ 2 * most_depth) (sym depth)
     (subst (λ (ss : List _). length (outside (halvings c.args.tree.now.count) 0 ss) ≤ 2 * most_depth) (sym c.put_sizes.ensures)
     (intervals_few (halvings c.args.tree.now.count) c.args.from c.args.sizes.now (replicate (length c.args.sizes.now) _) (omega (arith, depth, c.halvings-depth.ensures.bound)) c.requires.some
     (length-replicate _ _) (subst (λ (n : ℕ). AreAligned c.args.from n c.args.sizes.now) power c.requires.places)))

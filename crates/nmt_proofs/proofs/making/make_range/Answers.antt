@@ -6,7 +6,7 @@ use Rattle.nmt_tree.specs.Trees.{AreTreeLeaves}
 use Rattle.nmt_tree.proofs.CountLemmas.{leaf_count-le, power_halvings}
 use Rattle.nmt_proofs.specs.Openings.{outside}
 use Rattle.nmt_proofs.specs.Making.{spans, range_nodes}
-use Rattle.nmt_proofs.specs.Pieces.{shown}
+use Rattle.nmt_proofs.specs.Pieces.{shown_pieces}
 use Rattle.nmt_proofs.proofs.Neighbors.NeighborLemmas.{few_beside, outside_places, range_opens, range_complete}
 use Rattle.nmt_proofs.proofs.making.make_range.Goals as goal
 
@@ -25,7 +25,7 @@ nodes c leaves e =
     let depth : c.halvings-depth.result ≡ halvings c.args.tree.now.count = c.halvings-depth.ensures.value ∙ ap (λ (k : ℕ). halvings k) c.len.ensures.value in
     let few : c.args.count ≤ length c.blank_pieces-pieces.result = omega (arith, leaf_count-le c.args.tree.now.count c.len.ensures.count) in
     c.nodes_beside.ensures leaves e
-    ∙ ap (λ (k : ℕ). spans leaves (outside k 0 (shown c.put_places.new.pieces))) depth
+    ∙ ap (λ (k : ℕ). spans leaves (outside k 0 (shown_pieces c.put_places.new.pieces))) depth
     ∙ ap (spans leaves) (outside_places (halvings c.args.tree.now.count) c.args.from c.args.count c.blank_pieces-pieces.result c.put_places.new.pieces _ leaves few
     (omega (arith, (leaves_of c leaves e).number)) c.put_places.ensures)
 
@@ -46,6 +46,6 @@ returns-clause-opens c = λ leaves e name shares same digests.
     (leaves_of c leaves e).ordered (nodes c leaves e) same digests
 
 pub returns-clause-complete : goal.returns-clause-complete
-returns-clause-complete c = λ leaves e name names shares shown of el between same.
-    range_complete (halvings c.args.tree.now.count) c.args.from c.args.count leaves c.nodes_beside.result name names shares shown c.requires.some
+returns-clause-complete c = λ leaves e name names shares shown_pieces of el between same.
+    range_complete (halvings c.args.tree.now.count) c.args.from c.args.count leaves c.nodes_beside.result name names shares shown_pieces c.requires.some
     (within c) (all_leaves c leaves e) (nodes c leaves e) of el between same

@@ -2,7 +2,7 @@ use Rattle.std.proofs.Common.{◌≡◌, ◌∙◌, ◌+◌, ◌<◌, ℕ, ap, a
 use Rattle.std.proofs.lemmas.List.{take_more, take_more_set, length-take-le, length-replicate, replicate_more, take_all}
 use Rattle.namespace_id.specs.Sizes.{most_leaves}
 use Rattle.nmt_proofs.specs.Openings.{intervals_from}
-use Rattle.nmt_proofs.specs.Pieces.{shown}
+use Rattle.nmt_proofs.specs.Pieces.{shown_pieces}
 use Rattle.nmt_proofs.proofs.Sets.SetLemmas.{interval_more, next_end, aligned_end}
 use Rattle.nmt_proofs.proofs.making.put_sizes.Goals as goal
 
@@ -29,6 +29,6 @@ loop-i-preserved c =
 pub returns : goal.returns
 returns c =
     let done : length c.args.sizes.now ≡ c.loop-i.i = omega arith in
-    ap shown (sym (take_all c.loop-i.i c.loop-i.pieces (omega arith)))
+    ap shown_pieces (sym (take_all c.loop-i.i c.loop-i.pieces (omega arith)))
     ∙ c.loop-i.invariant.so_far
     ∙ ap₂ (λ (x : List ℕ) (y : ℕ). intervals_from c.args.from x (replicate y c.args.digest)) (take_all c.loop-i.i c.args.sizes.now (omega arith)) (sym done)

@@ -3,7 +3,7 @@ use Rattle.std.proofs.lemmas.List.{take_more, take_more_set, length-take-le, tak
 use Rattle.namespace_id.specs.Digests.{no_digest}
 use Rattle.namespace_id.specs.Sizes.{most_leaves}
 use Rattle.nmt_proofs.specs.Openings.{intervals_from}
-use Rattle.nmt_proofs.specs.Pieces.{shown}
+use Rattle.nmt_proofs.specs.Pieces.{shown_pieces}
 use Rattle.nmt_proofs.proofs.Sets.SetLemmas.{interval_more, next_end, aligned_end}
 use Rattle.nmt_proofs.proofs.opening.put_intervals.Goals as goal
 
@@ -32,6 +32,6 @@ loop-i-preserved c =
 pub returns : goal.returns
 returns c =
     let done : length c.args.sizes.now ≡ c.loop-i.i = omega arith in
-    ap (λ (k : ℕ). shown (take k c.loop-i.pieces)) done
+    ap (λ (k : ℕ). shown_pieces (take k c.loop-i.pieces)) done
     ∙ c.loop-i.invariant.pieces
     ∙ (λ k. intervals_from c.args.from (take_all c.loop-i.i c.args.sizes.now (omega arith) k) (take_all c.loop-i.i c.args.digests.now (omega arith) k))

@@ -1,12 +1,12 @@
 use Rattle.std.proofs.Common.{◌≡◌, take}
 use Rattle.nmt_proofs.specs.Openings.{intervals_from}
-use Rattle.nmt_proofs.specs.Pieces.{shown}
+use Rattle.nmt_proofs.specs.Pieces.{shown_pieces}
 use Rattle.nmt_proofs.proofs.Sets.SetLemmas.{end_of}
 use Rattle.nmt_proofs.proofs.opening.put_intervals.Given as goal
 
 -- the intervals so far, and where they end
 abbrev pub invariant-loop-i : goal.invariant-loop-i
 invariant-loop-i l = record {
-  pieces : shown (take l.i l.pieces) ≡ intervals_from l.from (take l.i l.sizes) (take l.i l.digests);
+  pieces : shown_pieces (take l.i l.pieces) ≡ intervals_from l.from (take l.i l.sizes) (take l.i l.digests);
   end : l.at ≡ end_of l.from (take l.i l.sizes);
 }

@@ -2,7 +2,7 @@ use Rattle.std.proofs.Common.{◌≡◌, ◌∙◌, ◌<◌, ℕ, ap, sym, refl,
 use Rattle.std.proofs.lemmas.List.{take_more, take_more_set, length-take-le, take_all}
 use Rattle.namespace_id.specs.declared.shares.Share.{Share}
 use Rattle.nmt_proofs.specs.Openings.{shadow, leaves_from}
-use Rattle.nmt_proofs.specs.Pieces.{shown}
+use Rattle.nmt_proofs.specs.Pieces.{shown_pieces}
 use Rattle.nmt_proofs.proofs.Neighbors.RangeLemmas.{leaf_more}
 use Rattle.nmt_proofs.proofs.opening.put_leaves.Goals as goal
 
@@ -22,7 +22,7 @@ loop-i-preserved c =
 pub returns : goal.returns
 returns c =
     let done : length c.args.shares.now ≡ c.loop-i.i = omega arith in
-    ap (λ (k : ℕ). shown (take k c.loop-i.pieces)) done
+    ap (λ (k : ℕ). shown_pieces (take k c.loop-i.pieces)) done
     ∙ c.loop-i.invariant
     ∙ ap (λ (l : List Share). shadow (leaves_from c.args.from c.args.name.now l))
     (ap (λ (k : ℕ). take k c.args.shares.now) (sym done) ∙ take_all (length c.args.shares.now) c.args.shares.now (omega arith))

@@ -3,7 +3,7 @@ use Rattle.std.proofs.lemmas.List.{take_more, take_more_set, length-take-le, tak
 use Rattle.namespace_id.specs.declared.namespaces.Namespace.{Namespace}
 use Rattle.namespace_id.specs.declared.shares.Share.{Share}
 use Rattle.nmt_proofs.specs.Openings.{shadow, leaves_at}
-use Rattle.nmt_proofs.specs.Pieces.{shown}
+use Rattle.nmt_proofs.specs.Pieces.{shown_pieces}
 use Rattle.nmt_proofs.proofs.Sets.SetLemmas.{set_more}
 use Rattle.nmt_proofs.proofs.opening.put_set.Goals as goal
 
@@ -30,6 +30,6 @@ loop-i-preserved c =
 pub returns : goal.returns
 returns c =
     let done : length c.args.places.now ≡ c.loop-i.i = omega arith in
-    ap (λ (k : ℕ). shown (take k c.loop-i.pieces)) done
+    ap (λ (k : ℕ). shown_pieces (take k c.loop-i.pieces)) done
     ∙ c.loop-i.invariant
     ∙ (λ k. shadow (leaves_at (take_all c.loop-i.i c.args.places.now (omega arith) k) (take_all c.loop-i.i c.args.names.now (omega arith) k) (take_all c.loop-i.i c.args.shares.now (omega arith) k)))

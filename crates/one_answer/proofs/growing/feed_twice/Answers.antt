@@ -1,7 +1,7 @@
 use Rattle.std.proofs.Common.{◌++◌, ◌∷◌, [], subst}
 use Rattle.axis_roots.specs.declared.message.messages.Message.{Message}
 use Rattle.axis_roots.specs.Proved.{kept_message}
-use Rattle.repair_queue.specs.SessionParts.{StandsFor}
+use Rattle.repair_queue.specs.SessionParts.{SessionStands}
 use Rattle.one_answer.proofs.LightLemmas.{on_both}
 use Rattle.one_answer.proofs.growing.feed_twice.Goals as goal
 
@@ -10,4 +10,4 @@ pub returns : goal.returns
 returns c = λ ms stands stood.
     on_both c.feed-first.result c.feed-second.result c.feed-first.ensures.stands c.feed-second.ensures.stands (λ on also.
     c.finish_twice-verdicts.ensures (ms ++ kept_message c.args.message ∷ []) (on ms stands)
-    (subst (λ (m : Message). StandsFor c.feed-second.new.self (ms ++ m ∷ [])) c.requires.copy (also ms stood)))
+    (subst (λ (m : Message). SessionStands c.feed-second.new.self (ms ++ m ∷ [])) c.requires.copy (also ms stood)))

@@ -1,6 +1,6 @@
 use Rattle.std.proofs.Common.{◌∙◌, List, sym, ap, subst, Vec, Global}
 use Rattle.namespace_id.specs.declared.shares.Share.{Share}
-use Rattle.repair_queue.specs.Boards.{given_of, decided_of, share_of}
+use Rattle.repair_queue.specs.Boards.{given_of, decided_of, shared_of}
 use Rattle.repair_queue.specs.Lines.{AreFacts}
 use Rattle.repair_queue.specs.Judging.{IsApartOrAlike}
 use Rattle.repair_queue.proofs.Lines.DecideLemmas.{apart_or_alike, gathered_facts, settles_decides}
@@ -20,6 +20,6 @@ returns-then-has_root-clause-decides c =
     settles_decides c.args.header.now c.args.board.now c.settle.new.board c.settle.new.tools c.args.axis c.args.index c.has_root.new.tools.line.items c.settle.result
     (λ ms stand.
     subst (λ (v : Vec Share Global). AreFacts c.args.header.now ms c.args.axis c.args.index v.items) (sym c.has_root.ensures.line)
-    (gathered_facts c.args.header.now ms (given_of c.args.board.now) (decided_of c.args.board.now) (share_of c.args.board.now) c.requires.good.sound stand c.args.axis c.args.index
+    (gathered_facts c.args.header.now ms (given_of c.args.board.now) (decided_of c.args.board.now) (shared_of c.args.board.now) c.requires.good.sound stand c.args.axis c.args.index
     c.rebuild_line.new.tools.known.items c.rebuild_line.new.tools.given.items c.rebuild_line.new.tools.line.items c.requires.index c.rebuild_line.ensures.chosen
     c.rebuild_line.ensures.gathered c.rebuild_line.ensures.line c.rebuild_line.ensures.entries)) c.settle.ensures.settles

@@ -1,6 +1,6 @@
 use Rattle.std.proofs.Common.{refl, ◌∙◌}
 use Rattle.repair_queue.specs.Pools.{slot_in}
-use Rattle.repair_queue.specs.Boards.{given_of, decided_of, share_of}
+use Rattle.repair_queue.specs.Boards.{given_of, decided_of, shared_of}
 use Rattle.repair_queue.proofs.Feeding.JudgeLemmas.{line_there, known_given, taken_message, emptied_sound}
 use Rattle.repair_queue.proofs.judging.message_known.Goals as goal
 
@@ -16,7 +16,7 @@ take_first-requires-clause-known c =
 
 pub returns-in-None-clause-message : goal.returns-in-None-clause-message
 returns-in-None-clause-message c =
-    taken_message c.args.header.now (given_of c.args.board.now) (decided_of c.args.board.now) (share_of c.args.board.now) c.args.cell c.take_first.result
+    taken_message c.args.header.now (given_of c.args.board.now) (decided_of c.args.board.now) (shared_of c.args.board.now) c.args.cell c.take_first.result
     c.take_first.ensures.kept.0 c.requires.readable.sound c.take_first.ensures.kept.1 (c.in-None.ensures.none refl) c.take_first.ensures.share
 
 -- what is left can be read
@@ -25,6 +25,6 @@ returns-in-None-clause-readable c = record {
   width = c.requires.readable.width;
   pool_width = c.take_first.ensures.width ∙ c.requires.readable.pool_width;
   marks_width = c.requires.readable.marks_width;
-  sound = emptied_sound c.args.header.now (given_of c.args.board.now) (slot_in c.take_first.new.pool) (decided_of c.args.board.now) (share_of c.args.board.now)
+  sound = emptied_sound c.args.header.now (given_of c.args.board.now) (slot_in c.take_first.new.pool) (decided_of c.args.board.now) (shared_of c.args.board.now)
       c.take_first.ensures.kept.0 c.args.cell c.take_first.ensures.kept.2 c.requires.readable.sound;
 }

@@ -2,7 +2,7 @@ use Rattle.std.proofs.Common.{◌≡◌, ◌∙◌, ℕ, ◌+◌, ◌*◌, ◌<�
 use Rattle.namespace_id.specs.declared.cells.Cell.{Cell}
 use Rattle.namespace_id.specs.declared.shares.Share.{Share}
 use Rattle.axis_roots.specs.Grids.{share_at}
-use Rattle.repair_queue.specs.Boards.{share_of}
+use Rattle.repair_queue.specs.Boards.{shared_of}
 use Rattle.repair_queue.proofs.Feeding.SharesLemmas.{one_moved, all_shares}
 use Rattle.repair_queue.proofs.sessions.original_shares.Goals as goal
 
@@ -32,5 +32,5 @@ returns c =
       count = ap length items ∙ c.loop-i.invariant.front.count ∙ all;
       are = λ cell within.
           ap (λ (l : List Share). share_at k l cell) items
-          ∙ all_shares k n (share_of c.args.board) (take n shares) all c.loop-i.invariant.front cell within;
+          ∙ all_shares k n (shared_of c.args.board) (take n shares) all c.loop-i.invariant.front cell within;
     }

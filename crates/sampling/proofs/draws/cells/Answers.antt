@@ -1,7 +1,7 @@
 use Rattle.std.proofs.Common.{◌≡◌, ◌*◌, ℕ, length, sym, ap, ap₂, subst, arith}
 use Rattle.namespace_id.specs.Cells.{all_cells}
 use Rattle.sampling.specs.Draws.{drawn_cells}
-use Rattle.sampling.specs.Taken.{AreTaken, cells_left}
+use Rattle.sampling.specs.Taken.{AscendFrom, cells_left}
 use Rattle.sampling.proofs.TakenLemmas.{left-all}
 use Rattle.sampling.proofs.DrawLemmas.{draw_start, draw_step, draw_end, drawn_count, drawn_apart, drawn_inside}
 use Rattle.sampling.proofs.draws.cells.Goals as goal
@@ -11,7 +11,7 @@ loop-init c = record {
   all = draw_start c.args.key.now c.args.count (cells_left (2 * c.args.k) c.in-Ok.taken.items) c.in-Ok-with_capacity.drawn.items (all_cells c.args.k)
       c.in-Ok-with_capacity.ensures.items (left-all c.args.k c.in-Ok.taken.items c.in-Ok.ensures.items);
   words = c.words_of-words.ensures;
-  ascend = subst (AreTaken 0) (sym c.in-Ok.ensures.items) tt;
+  ascend = subst (AscendFrom 0) (sym c.in-Ok.ensures.items) tt;
   count = ap length c.in-Ok.ensures.items;
   enough =
       let square : 4 * c.from.result * c.from-else-count-gt-MAX_DRAWN.result ≡ 4 * c.args.k * c.args.k =

@@ -2,7 +2,7 @@ use Rattle.std.proofs.Common.{◌≡◌, ◌∙◌, ℕ, List, sym, ap, subst}
 use Rattle.std.specs.Prelude.{None}
 use Rattle.square_layout.specs.Blocks.{BlockParts}
 use Rattle.square_layout.specs.Refusals.{layout_refusal}
-use Rattle.sampling.specs.Generated.{number_key, after_units, block_of}
+use Rattle.sampling.specs.Generated.{number_key, after_units, made_block}
 use Rattle.sampling.proofs.LayLemmas.{block_is, made_lays}
 use Rattle.sampling.proofs.generating.block.Goals as goal
 
@@ -16,7 +16,7 @@ returns-clause-value c =
     (c.in_ok-units.ensures.value key 0 c.words_of-words.ensures)
     (c.in_ok-units-2.ensures.value key (after_units c.args.k key 0) units)
     (c.in_ok-blobs.ensures key (after_units c.args.k key (after_units c.args.k key 0)) pay_units)
-    ∙ ap (block_of c.args.k) c.number_key.ensures
+    ∙ ap (made_block c.args.k) c.number_key.ensures
 
 pub returns-clause-lays : goal.returns-clause-lays
 returns-clause-lays c =

@@ -1,6 +1,6 @@
 use Rattle.std.proofs.Common.{◌≡◌, ◌∙◌, ◌+◌, List, ℕ, sym, ap, subst, arith}
 use Rattle.std.specs.List.{insert}
-use Rattle.sampling.specs.Taken.{AreTaken, passed, with_taken}
+use Rattle.sampling.specs.Taken.{AscendFrom, passed, with_taken}
 use Rattle.sampling.proofs.TakenLemmas.{taken_with}
 use Rattle.sampling.proofs.taken.take_out.Goals as goal
 
@@ -11,4 +11,4 @@ returns-clause-ascend c =
     c.passed-before.ensures.value ∙ ap (λ (l : List ℕ). passed l c.args.place) c.deref.ensures.value in
     let all : c.insert.new.self.items ≡ with_taken taken c.args.place =
     c.in-Ok.ensures.items ∙ ap (λ (n : ℕ). insert taken n (c.args.place + n)) before in
-    subst (AreTaken 0) (sym all) (taken_with taken 0 c.args.place (omega arith) c.requires.ascend)
+    subst (AscendFrom 0) (sym all) (taken_with taken 0 c.args.place (omega arith) c.requires.ascend)

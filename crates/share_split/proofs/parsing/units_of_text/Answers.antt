@@ -1,5 +1,5 @@
 use Rattle.std.proofs.Common.{◌∙◌, ◌<◌, ◌≡◌, ℕ, List, [], length, drop, length-drop, ap, sym, arith, inr, ◌+◌, Some}
-use Rattle.share_split.specs.Walks.{unit_at}
+use Rattle.share_split.specs.Walks.{text_unit}
 use Rattle.std.proofs.lemmas.List.{drop-drop}
 use Rattle.namespace_id.proofs.StringLemmas.{AreBytes-drop}
 use Rattle.share_split.proofs.Reading.Text.{text_stop, text_end, text_more, starts_more, starts_end}
@@ -12,7 +12,7 @@ returns-in_default-clause-units c =
     let text : List ℕ = c.args.text.now in
     let at : ℕ = c.loop-at.at in
     inr (text_stop at c.share_with.result (drop at text) c.loop-at.placed.units.items _
-    (ap unit_at (sym c.split_at.ensures.back) ∙ c.in_default.ensures.value) (omega (arith, c.loop-at-test.true, length-drop at text)) c.share_with.ensures c.loop-at.invariant.units)
+    (ap text_unit (sym c.split_at.ensures.back) ∙ c.in_default.ensures.value) (omega (arith, c.loop-at-test.true, length-drop at text)) c.share_with.ensures c.loop-at.invariant.units)
 
 -- one unit more was read
 pub loop-at-preserved : goal.loop-at-preserved
@@ -21,7 +21,7 @@ loop-at-preserved c =
     let at : ℕ = c.loop-at.at in
     let size : ℕ = c.in-Some.size in
     let left : 0 < length (drop at text) = omega (arith, c.loop-at-test.true, length-drop at text) in
-    let read : unit_at (drop at text) ≡ Some (c.in-Some.unit.now, size) = ap unit_at (sym c.split_at.ensures.back) ∙ c.in-Some.ensures.value in
+    let read : text_unit (drop at text) ≡ Some (c.in-Some.unit.now, size) = ap text_unit (sym c.split_at.ensures.back) ∙ c.in-Some.ensures.value in
     let u = unit_back (drop at text) c.in-Some.unit.now size (AreBytes-drop at text (λ i. omega (arith, c.type_inv.text i))) read in
     record {
       within = omega (arith, u.within, length-drop at text, c.loop-at-test.true);

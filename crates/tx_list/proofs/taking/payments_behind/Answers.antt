@@ -5,7 +5,7 @@ use Rattle.std.proofs.lemmas.List.{drop_all, append-nil}
 use Rattle.std.proofs.lemmas.Result.{err_from_is_err_and}
 use Rattle.tx_list.specs.Payments.{PaymentParts, IsPayment}
 use Rattle.tx_list.specs.Reads.{is_payment, payment_of}
-use Rattle.tx_list.specs.Walks.{judgement, taken_of}
+use Rattle.tx_list.specs.Walks.{judgement, taken_payments}
 use Rattle.tx_list.specs.ReadRefusals.{transaction_refusal, transactions_refusal}
 use Rattle.tx_list.proofs.CheckLemmas.{drop-one, transaction_found, transaction_passed, transactions_none}
 use Rattle.tx_list.proofs.JudgeLemmas.{front_counted, paid_next, count_next, few_next}
@@ -45,7 +45,7 @@ loop-i-preserved c =
           let both = and_parts c.loop-i.is_whole c.read_one-judged.result.1 (sym c.both-is_whole.ensures ∙ whole) in
           taken_next c.loop-i.i (nat_lt c.loop-i.plain c.loop-i.i) one _ _ c.loop-i.payments.items c.read_one-judged.new.payments.items left (sym passed)
           (c.read_one-judged.ensures.kept both.1
-          ∙ ap (λ (l : List ℕ). c.loop-i.payments.items ++ taken_of (judgement c.loop-i.i l) l) bytes)
+          ∙ ap (λ (l : List ℕ). c.loop-i.payments.items ++ taken_payments (judgement c.loop-i.i l) l) bytes)
           ∙ so_far.kept both.0;
     }
 

@@ -4,7 +4,7 @@ use Rattle.share_split.specs.Blobs.{NamedBytes}
 use Rattle.tx_list.specs.declared.checking.Judged.{Judged}
 use Rattle.tx_list.specs.declared.checking.Judged.TheVariants as judged
 use Rattle.tx_list.specs.Payments.{PaymentParts, IsPayment}
-use Rattle.tx_list.specs.Walks.{taken_of}
+use Rattle.tx_list.specs.Walks.{taken_payments}
 use Rattle.tx_list.proofs.TakingLemmas.{payment_has, payment_lacks, judged_taken, taken_payment, payment_parts_are}
 use Rattle.tx_list.proofs.taking.read_one.Goals as goal
 
@@ -29,7 +29,7 @@ returns-clause-kept c = λ kept.
     ∙ ap (λ (payment : PaymentParts). c.args.payments.now.items ++ (payment ∷ []))
     (payment_parts_are c.args.bytes.now c.in-Ok.tx.items c.walk-walked.new.blobs.items (c.in-Ok.ensures ∙ c.walk-walked.ensures.tx taken)
     (c.walk-walked.ensures.blobs c.if-not-walked.false taken))
-    ∙ sym (ap (λ (one : Judged). c.args.payments.now.items ++ taken_of one c.args.bytes.now) judgement_is)
+    ∙ sym (ap (λ (one : Judged). c.args.payments.now.items ++ taken_payments one c.args.bytes.now) judgement_is)
 
 -- none is taken
 pub returns-then-not-has_payment-clause-kept : goal.returns-then-not-has_payment-clause-kept
@@ -37,4 +37,4 @@ returns-then-not-has_payment-clause-kept c = λ kept.
     sym (append-nil c.args.payments.now.items)
     ∙ ap (λ (l : List PaymentParts). c.args.payments.now.items ++ l)
     (sym (payment_lacks c.walk-walked.result.judged c.args.bytes.now (sym c.has_payment.ensures ∙ c.if-not-has_payment.true))
-    ∙ ap (λ (one : Judged). taken_of one c.args.bytes.now) c.walk-walked.ensures.judged)
+    ∙ ap (λ (one : Judged). taken_payments one c.args.bytes.now) c.walk-walked.ensures.judged)

@@ -6,7 +6,7 @@ use Rattle.proto_fields.specs.Fields.{own_bytes}
 use Rattle.proto_fields.specs.Values.{field_parts}
 use Rattle.proto_fields.proofs.FieldLemmas.{field_is_shorter}
 use Rattle.tx_list.specs.declared.checking.Checked.{Checked}
-use Rattle.tx_list.specs.Reads.{entries_of}
+use Rattle.tx_list.specs.Reads.{payment_entries}
 use Rattle.tx_list.specs.Walks.{with_entries, with_blobs, IsTakenEntry}
 use Rattle.tx_list.proofs.EntryLemmas.{own_few, entries_step}
 use Rattle.tx_list.proofs.KeptLemmas.{fields_go, kept_goes, last_goes, kept_stops, last_stops}
@@ -22,7 +22,7 @@ loop-field-init c = record {
   tx = λ fine. refl;
   checked = λ fine. refl;
   few = omega arith;
-  blobs = λ whole taken fine. ap (λ (blobs : List NamedBytes). with_blobs blobs (entries_of c.args.bytes.now)) c.requires;
+  blobs = λ whole taken fine. ap (λ (blobs : List NamedBytes). with_blobs blobs (payment_entries c.args.bytes.now)) c.requires;
   taken = λ taken. entries_taken c.args.bytes.now taken;
 }
 
@@ -60,12 +60,12 @@ loop-field-preserved c =
       blobs = λ whole taken.
           let both = and_parts c.loop-field.is_whole more.result (sym c.both-is_whole.ensures ∙ whole) in
           let step = entries_step rest after field c.in-Some.ensures (so_far.fields ∙ taken.fields) in
-          let own = (all_split (own_bytes 2 field) (entries_of after) (subst (λ (l : List (List ℕ)). AllByRecursion IsTakenEntry l) step (so_far.taken taken))).0 in
+          let own = (all_split (own_bytes 2 field) (payment_entries after) (subst (λ (l : List (List ℕ)). AllByRecursion IsTakenEntry l) step (so_far.taken taken))).0 in
           kept_goes with_blobs blobs-append (own_bytes 2) [] c.loop-field.blobs.items more.new.blobs.items bytes rest after field
           so_far.fields (so_far.blobs both.0 taken) c.in-Some.ensures (more.ensures.kept both.1 own);
       taken = λ taken.
           let step = entries_step rest after field c.in-Some.ensures (so_far.fields ∙ taken.fields) in
-          (all_split (own_bytes 2 field) (entries_of after) (subst (λ (l : List (List ℕ)). AllByRecursion IsTakenEntry l) step (so_far.taken taken))).1;
+          (all_split (own_bytes 2 field) (payment_entries after) (subst (λ (l : List (List ℕ)). AllByRecursion IsTakenEntry l) step (so_far.taken taken))).1;
     }
 
 -- none is left

@@ -1,7 +1,7 @@
 use Rattle.std.proofs.Common.{◌≡◌, ◌+◌, ◌≤◌, true, [], length}
 use Rattle.std.specs.List.{AllByRecursion}
 use Rattle.proto_fields.specs.Fields.{last_of, own_bytes}
-use Rattle.tx_list.specs.Reads.{are_fields, entries_of}
+use Rattle.tx_list.specs.Reads.{are_fields, payment_entries}
 use Rattle.tx_list.specs.Walks.{with_entries, with_blobs, IsTakenEntry, IsTakenPayment}
 use Rattle.tx_list.proofs.KeptLemmas.{IsKept}
 use Rattle.tx_list.proofs.JudgeLemmas.{unchecked}
@@ -16,7 +16,7 @@ invariant-loop-field l = record {
   checked : IsKept (with_entries l.i) (own_bytes 2) unchecked l.checked l.fn.bytes l.rest;
   few : l.checked.count + length l.rest ≤ length l.fn.bytes;
   blobs : l.is_whole ≡ true → IsTakenPayment l.fn.bytes → IsKept with_blobs (own_bytes 2) [] l.blobs.items l.fn.bytes l.rest;
-  taken : IsTakenPayment l.fn.bytes → AllByRecursion IsTakenEntry (entries_of l.rest);
+  taken : IsTakenPayment l.fn.bytes → AllByRecursion IsTakenEntry (payment_entries l.rest);
 }
 
 abbrev pub decreases-loop-field : goal.decreases-loop-field

@@ -4,7 +4,7 @@ use Rattle.namespace_id.specs.Shares.{AreShares}
 use Rattle.square_layout.specs.Blocks.{SquareShares}
 use Rattle.tx_list.specs.BackRefusals.{run_of, behind_run, wrappers_refusal, payment_at}
 use Rattle.tx_list.specs.Payments.{blobs_of}
-use Rattle.tx_list.specs.Measures.{measure_of, AreCounted}
+use Rattle.tx_list.specs.Measures.{measure_of, HaveLengths}
 use Rattle.tx_list.proofs.WideLemmas.{wide_by}
 use Rattle.tx_list.proofs.unlaying.transactions_in.Goals as goal
 
@@ -26,7 +26,7 @@ returns-then-blobs-len-clause-refused c =
           (c.split_run-2.ensures.run ∙ ap (run_of pay_for_blob) (c.split_run.ensures.behind ∙ ap (behind_run transaction) run))
           c.in_ok-transactions.ensures.first c.in_ok-payments.ensures.first c.in_ok-transactions.ensures.units
           (c.deref-then-blobs-len.ensures.value ∙ c.in_ok-payments.ensures.units)
-          (sym (ap₂ (λ l u. wrappers_refusal 0 l u) walked same) ∙ c.in_ok-blobs.ensures.first) (subst AreCounted same c.in_ok-blobs.ensures.counted)
+          (sym (ap₂ (λ l u. wrappers_refusal 0 l u) walked same) ∙ c.in_ok-blobs.ensures.first) (subst HaveLengths same c.in_ok-blobs.ensures.counted)
           (c.in_ok-blobs.ensures.measure ∙ ap₂ (λ l u. measure_of (blobs_of (map (payment_at l) u))) walked same)
           (omega (arith, c.if-blobs-len.true, c.len.ensures, ap length shares)) ∙ ap Some (sym is))
     ]

@@ -5,7 +5,7 @@ use Rattle.blob_feed.specs.declared.entries.FollowError.TheVariants.{NotBlob, Un
 use Rattle.blob_feed.specs.declared.followers.Last.{Last}
 use Rattle.blob_feed.specs.Filters.{wanted_by}
 use Rattle.blob_feed.specs.Feeds.{answered}
-use Rattle.blob_feed.specs.Followers.{FollowerParts, StandsFor, IsRefusedFor}
+use Rattle.blob_feed.specs.Followers.{FollowerParts, FollowerStands, IsAnswerRefusedFor}
 use Rattle.blob_feed.proofs.StandLemmas.{last_entered, stands_answered, same_last}
 use Rattle.blob_feed.proofs.followers.Follower.answer.Goals as goal
 
@@ -21,10 +21,10 @@ returns-clause-refused g c = λ last is why other.
     let here : c.in-Some.last ≡ last = same_last c.in-Some.last last
     (sym c.in-Some.is ∙ ap (λ (n : FollowerParts g.row.F.Denot). n.last) c.self.view_is ∙ is) in
     subst (λ (n : FollowerParts g.row.F.Denot). IsErrOf c.take.result why
-    ↔ IsRefusedFor (g.F.Filter.answers n.filter c.args.namespace.now) last c.args.namespace.now c.args.answer.now why)
+    ↔ IsAnswerRefusedFor (g.F.Filter.answers n.filter c.args.namespace.now) last c.args.namespace.now c.args.answer.now why)
     c.self.view_is
     (subst (λ (l : Last). IsErrOf c.take.result why
-    ↔ IsRefusedFor (g.F.Filter.answers c.self.inside.filter c.args.namespace.now) l c.args.namespace.now
+    ↔ IsAnswerRefusedFor (g.F.Filter.answers c.self.inside.filter c.args.namespace.now) l c.args.namespace.now
     c.args.answer.now why) here (c.take.ensures.refused why other))
 
 -- the first two, whatever the answer is
@@ -40,14 +40,14 @@ returns-clause-unwanted g c =
 -- the follower stands for one more answer
 pub returns-clause-stands : goal.returns-clause-stands
 returns-clause-stands g c = λ had items stands.
-    let stood = subst (λ (n : FollowerParts g.row.F.Denot). StandsFor (wanted_by g.F.Filter.answers n.filter) n items)
+    let stood = subst (λ (n : FollowerParts g.row.F.Denot). FollowerStands (wanted_by g.F.Filter.answers n.filter) n items)
     (sym c.self.view_is) stands in
-    subst (λ (n : FollowerParts g.row.F.Denot). StandsFor (wanted_by g.F.Filter.answers n.filter)
+    subst (λ (n : FollowerParts g.row.F.Denot). FollowerStands (wanted_by g.F.Filter.answers n.filter)
     (record { filter = c.self.inside.filter; past = c.self.inside.past.items; last = Some c.take.new.last })
     (items ++ answered (record { name = c.args.namespace.now; answer = c.args.answer.now }) ∷ [])) c.self.view_is
     (stands_answered (wanted_by g.F.Filter.answers c.self.inside.filter) c.self.inside.filter c.self.inside.past.items
     c.in-Some.last c.take.new.last items (record { name = c.args.namespace.now; answer = c.args.answer.now })
     (record { name = c.namespace_law.ensures; entries = c.answer_law.ensures }) (c.take.ensures.fed had)
     c.take.ensures.header
-    (subst (λ (l : Option Last). StandsFor (wanted_by g.F.Filter.answers c.self.inside.filter)
+    (subst (λ (l : Option Last). FollowerStands (wanted_by g.F.Filter.answers c.self.inside.filter)
     (record { filter = c.self.inside.filter; past = c.self.inside.past.items; last = l }) items) c.in-Some.is stood))

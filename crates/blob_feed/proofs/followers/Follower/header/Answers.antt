@@ -2,7 +2,7 @@ use Rattle.std.proofs.Common.{◌∙◌, [], ◌∷◌, ◌++◌, List, Option, 
 use Rattle.blob_feed.specs.declared.followers.Last.{Last}
 use Rattle.blob_feed.specs.Filters.{wanted_by}
 use Rattle.blob_feed.specs.Feeds.{headed}
-use Rattle.blob_feed.specs.Followers.{Feed, FollowerParts, StandsFor, last_feed}
+use Rattle.blob_feed.specs.Followers.{Feed, FollowerParts, FollowerStands, last_feed}
 use Rattle.blob_feed.proofs.StandLemmas.{stands_headed}
 use Rattle.blob_feed.proofs.followers.Follower.header.Goals as goal
 
@@ -10,8 +10,8 @@ use Rattle.blob_feed.proofs.followers.Follower.header.Goals as goal
 pub returns-in-Some-clause-stands : goal.returns-in-Some-clause-stands
 returns-in-Some-clause-stands g c = λ items stands.
     let wants = wanted_by g.F.Filter.answers c.args.self.now.filter in
-    let stood = subst (λ (n : FollowerParts g.row.F.Denot). StandsFor wants n items) (sym c.self.view_is) stands in
-    subst (λ (l : Option Last). StandsFor wants
+    let stood = subst (λ (n : FollowerParts g.row.F.Denot). FollowerStands wants n items) (sym c.self.view_is) stands in
+    subst (λ (l : Option Last). FollowerStands wants
     (record { filter = c.self.inside.filter; past = c.put_feed.new.past.items; last = l })
     (items ++ headed c.args.header ∷ []))
     (sym (c.replace.ensures.after
@@ -26,8 +26,8 @@ returns-in-Some-clause-stands g c = λ items stands.
 pub returns-in_default-clause-stands : goal.returns-in_default-clause-stands
 returns-in_default-clause-stands g c = λ items stands.
     let wants = wanted_by g.F.Filter.answers c.args.self.now.filter in
-    let stood = subst (λ (n : FollowerParts g.row.F.Denot). StandsFor wants n items) (sym c.self.view_is) stands in
-    subst (λ (l : Option Last). StandsFor wants
+    let stood = subst (λ (n : FollowerParts g.row.F.Denot). FollowerStands wants n items) (sym c.self.view_is) stands in
+    subst (λ (l : Option Last). FollowerStands wants
     (record { filter = c.self.inside.filter; past = c.reserve.new.self.items; last = l })
     (items ++ headed c.args.header ∷ []))
     (sym (c.replace.ensures.after

@@ -1,6 +1,6 @@
 use Rattle.std.proofs.Common.{◌∙◌, [], ◌∷◌, ◌++◌, refl, subst}
 use Rattle.axis_roots.specs.declared.message.messages.Message.{Message}
-use Rattle.repair_queue.specs.SessionParts.{StandsFor}
+use Rattle.repair_queue.specs.SessionParts.{SessionStands}
 use Rattle.da_demo.specs.Sessions.{proved_of}
 use Rattle.da_demo.proofs.GatheredLemmas.{take_lie, take_kept}
 use Rattle.da_demo.proofs.gathering.Gathered.take_in.Goals as goal
@@ -11,7 +11,7 @@ returns-in_ok-feed-in-Some-clause-gathered c = λ ms before.
     let known = c.in-Some.ensures in
     let header = c.args.header.now in
     take_kept header ms c.args.message c.args.self.now _ before known.holds (c.feed.ensures.header ∙ c.requires.header)
-    (subst (λ (m : Message). StandsFor c.feed.new.self (proved_of header ms ++ m ∷ [])) known.message
+    (subst (λ (m : Message). SessionStands c.feed.new.self (proved_of header ms ++ m ∷ [])) known.message
     (c.in_ok-feed-in-Some.ensures.stands (proved_of header ms) before.fed)) refl refl
 
 -- it isn't proved

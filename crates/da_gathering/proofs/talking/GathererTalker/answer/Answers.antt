@@ -4,8 +4,8 @@ use Rattle.std.specs.declared.option.Option.{Option}
 use Rattle.repair_queue.specs.SessionParts.{SessionParts}
 use Rattle.frame_payloads.specs.kinds.Message.{most_message}
 use Rattle.da_talk.specs.Replies.{refusal}
-use Rattle.da_gathering.specs.Gatherings.{Gathering, IsOver, IsSession}
-use Rattle.da_gathering.specs.Fed.{samples_in}
+use Rattle.da_gathering.specs.Gatherings.{Gathering, IsSessionOver, IsGatheringSession}
+use Rattle.da_gathering.specs.Fed.{samples_there}
 use Rattle.da_gathering.proofs.GatherLemmas.{still_missing, told_asked, gathered_fed, proved_lies, counted_lies, refused_due}
 use Rattle.da_gathering.proofs.talking.GathererTalker.answer.Goals as goal
 
@@ -18,15 +18,15 @@ returns-then-asks_state-clause-due c = λ on first frames raw led count handed.
 -- it stands for the sample too
 pub invariant_of-self-in-None : goal.invariant_of-self-in-None
 invariant_of-self-in-None c =
-    let is = subst (λ (o : Option SessionParts). IfSome o (IsSession c.self.inside.header.now c.self.inside.over)) c.in-Some.is c.self.invariant.1 in
+    let is = subst (λ (o : Option SessionParts). IfSome o (IsGatheringSession c.self.inside.header.now c.self.inside.over)) c.in-Some.is c.self.invariant.1 in
     let stands = c.feed.ensures.stands is.ms is.stands in (
       c.self.invariant.0,
       record {
         width = is.width;
         under = c.feed.ensures.header;
-        ms = is.ms ++ samples_in c.sample_in.result;
+        ms = is.ms ++ samples_there c.sample_in.result;
         stands = stands;
-        tells = c.is_over-self-inside.ensures (is.ms ++ samples_in c.sample_in.result) stands;
+        tells = c.is_over-self-inside.ensures (is.ms ++ samples_there c.sample_in.result) stands;
       },
     )
 
@@ -45,10 +45,10 @@ returns-in-Some-feed-clause-led c = λ fit first frames raw led count handed.
 pub returns-in-Some-feed-clause-due : goal.returns-in-Some-feed-clause-due
 returns-in-Some-feed-clause-due c = λ on first frames raw led count handed.
     let own : c.self.inside.header.now ≡ first.header = ap (λ (g : Gathering). g.header) c.self.view_is ∙ led.header_is in
-    let is = subst (λ (o : Option SessionParts). IfSome o (IsSession c.self.inside.header.now c.self.inside.over)) c.in-Some.is c.self.invariant.1 in
-    let goes : IsOver false c.feed.new.session =
-    subst (λ (s : SessionParts). IsOver false s) (sym (c.in-Some-feed.ensures.kept refl))
-    (subst (λ (b : Bool). IsOver b c.in-Some.session) (ap (λ (g : Gathering). g.is_over) c.self.view_is ∙ c.requires.open) is.tells) in
+    let is = subst (λ (o : Option SessionParts). IfSome o (IsGatheringSession c.self.inside.header.now c.self.inside.over)) c.in-Some.is c.self.invariant.1 in
+    let goes : IsSessionOver false c.feed.new.session =
+    subst (λ (s : SessionParts). IsSessionOver false s) (sym (c.in-Some-feed.ensures.kept refl))
+    (subst (λ (b : Bool). IsSessionOver b c.in-Some.session) (ap (λ (g : Gathering). g.is_over) c.self.view_is ∙ c.requires.open) is.tells) in
     let left = still_missing c.session_laws.ensures.known c.session_laws.ensures.settled first.header (frames ++ raw ∷ []) _
     (returns-in-Some-feed-clause-led c (λ e. absurd cc) first frames raw led count handed) c.feed.new.session refl goes is.width in (
       refused_due first.header frames raw c.self.inside.header.now c.sample_in.result (Some c.in-Some-feed.reason) c.args.number c.put_refusal_frame.new.text.items
@@ -73,7 +73,7 @@ pub returns-in-None-clause-due : goal.returns-in-None-clause-due
 returns-in-None-clause-due c = λ on first frames raw led count handed.
     let own : c.self.inside.header.now ≡ first.header = ap (λ (g : Gathering). g.header) c.self.view_is ∙ led.header_is in
     let is = (invariant_of-self-in-None c).1 in
-    let goes : IsOver false c.feed.new.session = subst (λ (b : Bool). IsOver b c.feed.new.session) (c.turn_of.ensures.goes_on.0 on) is.tells in
+    let goes : IsSessionOver false c.feed.new.session = subst (λ (b : Bool). IsSessionOver b c.feed.new.session) (c.turn_of.ensures.goes_on.0 on) is.tells in
     let left = still_missing c.session_laws.ensures.known c.session_laws.ensures.settled first.header (frames ++ raw ∷ []) _ (returns-in-None-clause-led c c.turn_of.ensures.fits first frames raw led count handed)
     c.feed.new.session refl goes is.width in (
       refused_due first.header frames raw c.self.inside.header.now c.sample_in.result None c.args.number c.args.text.now.items

@@ -2,7 +2,7 @@ use Rattle.std.proofs.Common.{◌∙◌, ◌++◌, ◌∷◌, [], refl, sym, sub
 use Rattle.axis_roots.specs.declared.message.messages.Message.{Message}
 use Rattle.da_net.specs.declared.full.Fed.TheVariants.{On, Ended}
 use Rattle.da_net.specs.Networks.{messages_of}
-use Rattle.da_net.specs.Nodes.{HasSpare, IsFed}
+use Rattle.da_net.specs.Nodes.{HasSpareClaim, ComesOfFeeding}
 use Rattle.da_net.proofs.FullLemmas.{session_of, full_ended, full_refused, taken_on, taken_end, room_end, none_rejects}
 use Rattle.da_net.proofs.full.FullNode.take.Goals as goal
 
@@ -39,15 +39,15 @@ pub returns-in-On-clause-stands : goal.returns-in-On-clause-stands
 returns-in-On-clause-stands c = λ items is.
     (taken_on c.args.header.now items c.args.message c.args.self.now c.in-Some.session (sym c.is_some.ensures ∙ c.if-is_some.false)
     (sym c.in-Some.ensures.value) c.args.room.now c.feed.new.room is c.in-On.session
-    (λ fed stands. subst (λ (m : Message). IsFed c.args.header.now (fed ++ m ∷ []) c.args.room.now c.feed.new.room (On c.in-On.session)) c.in-Ok.ensures.message
+    (λ fed stands. subst (λ (m : Message). ComesOfFeeding c.args.header.now (fed ++ m ∷ []) c.args.room.now c.feed.new.room (On c.in-On.session)) c.in-Ok.ensures.message
     (c.in-On.ensures.fed fed stands))).0
 
 pub returns-in-On-clause-room : goal.returns-in-On-clause-room
 returns-in-On-clause-room c = λ not.
-    subst (HasSpare c.args.header.now.k) (sym (taken_on c.args.header.now c.requires.node.0 c.args.message c.args.self.now c.in-Some.session
+    subst (HasSpareClaim c.args.header.now.k) (sym (taken_on c.args.header.now c.requires.node.0 c.args.message c.args.self.now c.in-Some.session
     (sym c.is_some.ensures ∙ c.if-is_some.false)
     (sym c.in-Some.ensures.value) c.args.room.now c.feed.new.room c.requires.node.1 c.in-On.session
-    (λ fed stands. subst (λ (m : Message). IsFed c.args.header.now (fed ++ m ∷ []) c.args.room.now c.feed.new.room (On c.in-On.session)) c.in-Ok.ensures.message
+    (λ fed stands. subst (λ (m : Message). ComesOfFeeding c.args.header.now (fed ++ m ∷ []) c.args.room.now c.feed.new.room (On c.in-On.session)) c.in-Ok.ensures.message
     (c.in-On.ensures.fed fed stands))).1) (c.requires.room not)
 
 -- or it ended
@@ -55,14 +55,14 @@ pub returns-in-Ended-clause-stands : goal.returns-in-Ended-clause-stands
 returns-in-Ended-clause-stands c = λ items is.
     taken_end c.args.header.now items c.args.message c.args.self.now c.in-Some.session (sym c.is_some.ensures ∙ c.if-is_some.false)
     (sym c.in-Some.ensures.value) c.args.room.now c.feed.new.room is c.take.new.self c.in-Ended.end
-    (λ fed stands. subst (λ (m : Message). IsFed c.args.header.now (fed ++ m ∷ []) c.args.room.now c.feed.new.room (Ended c.in-Ended.end)) c.in-Ok.ensures.message
+    (λ fed stands. subst (λ (m : Message). ComesOfFeeding c.args.header.now (fed ++ m ∷ []) c.args.room.now c.feed.new.room (Ended c.in-Ended.end)) c.in-Ok.ensures.message
     (c.in-Ended.ensures.fed fed stands))
 
 pub returns-in-Ended-clause-room : goal.returns-in-Ended-clause-room
 returns-in-Ended-clause-room c =
     room_end c.args.header.now c.requires.node.0 c.args.message c.args.self.now c.in-Some.session (sym c.is_some.ensures ∙ c.if-is_some.false)
     (sym c.in-Some.ensures.value) c.args.room.now c.feed.new.room c.requires.node.1 c.in-Ended.end
-    (λ fed stands. subst (λ (m : Message). IsFed c.args.header.now (fed ++ m ∷ []) c.args.room.now c.feed.new.room (Ended c.in-Ended.end)) c.in-Ok.ensures.message
+    (λ fed stands. subst (λ (m : Message). ComesOfFeeding c.args.header.now (fed ++ m ∷ []) c.args.room.now c.feed.new.room (Ended c.in-Ended.end)) c.in-Ok.ensures.message
     (c.in-Ended.ensures.fed fed stands))
     (c.requires.room (none_rejects c.args.self.now.end (sym c.is_some.ensures ∙ c.if-is_some.false)))
 

@@ -6,8 +6,8 @@ use Rattle.da_net.specs.declared.items.Kept.{Kept}
 use Rattle.da_net.specs.declared.seats.Entry.{Entry}
 use Rattle.da_net.specs.declared.seats.Seat.{Seat}
 use Rattle.da_net.specs.Networks.{handed, Network}
-use Rattle.da_net.specs.Nets.{NetParts, is_full, IsSame, IsHanded}
-use Rattle.da_net.specs.Seats.{kind_of, items_in, IsNet}
+use Rattle.da_net.specs.Nets.{NetParts, is_full, IsSameNet, IsHanded}
+use Rattle.da_net.specs.Seats.{node_kind, pool_items, IsNet}
 use Rattle.da_net.proofs.NetLemmas.{seen, net_hand, same_network, is_handed, room_for_step}
 use Rattle.da_net.proofs.nets.Net.hand.Goals as goal
 
@@ -15,10 +15,10 @@ pub hand-requires-clause-seat : goal.hand-requires-clause-seat
 hand-requires-clause-seat g c =
     let seats = c.self.inside.seats in
     let node : c.args.node < length seats.items =
-    omega (arith, subst (λ (n : NetParts). c.args.node < length n.nodes) (sym c.self.view_is) c.requires.node, length-map seats.items (λ (s : Seat _). kind_of s.node)) in
+    omega (arith, subst (λ (n : NetParts). c.args.node < length n.nodes) (sym c.self.view_is) c.requires.node, length-map seats.items (λ (s : Seat _). node_kind s.node)) in
     let at : slice_get seats.items c.args.node ≡ Some c.index_mut-seat.result.now =
     slice_get_read seats.items (length seats.items) c.args.node c.index_mut-seat.result.now refl node c.index_mut-seat.ensures.value in (
-      handed (items_in c.self.inside.pool.items) c.self.inside.steps.items c.args.node,
+      handed (pool_items c.self.inside.pool.items) c.self.inside.steps.items c.args.node,
       c.self.invariant.1.seated c.args.node c.index_mut-seat.result.now at,
     )
 
@@ -45,14 +45,14 @@ invariant_of-self g c =
     let free = subst (λ (n : NetParts). is_full n (event.Hand c.args.item c.args.node) ≡ false) (sym c.self.view_is) c.requires.room in
     let room : length c.self.inside.steps.items < c.self.inside.most_steps = room_for_step net (event.Hand c.args.item c.args.node) free in
     let node : c.args.node < length seats.items =
-    omega (arith, subst (λ (n : NetParts). c.args.node < length n.nodes) (sym c.self.view_is) c.requires.node, length-map seats.items (λ (s : Seat _). kind_of s.node)) in
+    omega (arith, subst (λ (n : NetParts). c.args.node < length n.nodes) (sym c.self.view_is) c.requires.node, length-map seats.items (λ (s : Seat _). node_kind s.node)) in
     let at : slice_get seats.items c.args.node ≡ Some c.index_mut-seat.result.now =
     slice_get_read seats.items (length seats.items) c.args.node c.index_mut-seat.result.now refl node c.index_mut-seat.ensures.value in
     let item : c.args.item < length pool.items =
     omega (arith, subst (λ (n : NetParts). c.args.item < length n.pool) (sym c.self.view_is) c.requires.item, length-map pool.items (λ (e : Entry). e.item)) in
     let there : slice_get pool.items c.args.item ≡ Some c.index.result.now =
     slice_get_read pool.items (length pool.items) c.args.item c.index.result.now refl item c.index.ensures in
-    let step = c.hand.ensures.step (handed (items_in pool.items) c.self.inside.steps.items c.args.node) (c.self.invariant.1.seated c.args.node c.index_mut-seat.result.now at) in (
+    let step = c.hand.ensures.step (handed (pool_items pool.items) c.self.inside.steps.items c.args.node) (c.self.invariant.1.seated c.args.node c.index_mut-seat.result.now at) in (
       c.self.invariant.0,
       subst (λ (l : List Kept). IsNet g.F.Picker.picks c.self.inside.header (set seats.items c.args.node c.hand.new.seat) pool.items l) (sym c.push_reserved.ensures.items)
           (net_hand g.F.Picker.picks c.self.inside.header seats.items pool.items c.self.inside.steps.items c.self.invariant.1 c.args.node c.index_mut-seat.result.now
@@ -68,12 +68,12 @@ pub returns-clause-kept : goal.returns-clause-kept
 returns-clause-kept g c =
     let seats = c.self.inside.seats in
     let node : c.args.node < length seats.items =
-    omega (arith, subst (λ (n : NetParts). c.args.node < length n.nodes) (sym c.self.view_is) c.requires.node, length-map seats.items (λ (s : Seat _). kind_of s.node)) in
+    omega (arith, subst (λ (n : NetParts). c.args.node < length n.nodes) (sym c.self.view_is) c.requires.node, length-map seats.items (λ (s : Seat _). node_kind s.node)) in
     let at : slice_get seats.items c.args.node ≡ Some c.index_mut-seat.result.now =
     slice_get_read seats.items (length seats.items) c.args.node c.index_mut-seat.result.now refl node c.index_mut-seat.ensures.value in
-    let step = c.hand.ensures.step (handed (items_in c.self.inside.pool.items) c.self.inside.steps.items c.args.node)
+    let step = c.hand.ensures.step (handed (pool_items c.self.inside.pool.items) c.self.inside.steps.items c.args.node)
     (c.self.invariant.1.seated c.args.node c.index_mut-seat.result.now at) in
-    subst (λ (n : NetParts). IsSame n (seen c.self.inside.header (set seats.items c.args.node c.hand.new.seat) c.self.inside.most_items c.self.inside.most_steps
+    subst (λ (n : NetParts). IsSameNet n (seen c.self.inside.header (set seats.items c.args.node c.hand.new.seat) c.self.inside.most_items c.self.inside.most_steps
     c.self.inside.pool.items c.push_reserved.new.self.items)) c.self.view_is
     (record {
       header = refl;
@@ -88,14 +88,14 @@ returns-clause-handed g c =
     let pool = c.self.inside.pool in
     let seats = c.self.inside.seats in
     let node : c.args.node < length seats.items =
-    omega (arith, subst (λ (n : NetParts). c.args.node < length n.nodes) (sym c.self.view_is) c.requires.node, length-map seats.items (λ (s : Seat _). kind_of s.node)) in
+    omega (arith, subst (λ (n : NetParts). c.args.node < length n.nodes) (sym c.self.view_is) c.requires.node, length-map seats.items (λ (s : Seat _). node_kind s.node)) in
     let at : slice_get seats.items c.args.node ≡ Some c.index_mut-seat.result.now =
     slice_get_read seats.items (length seats.items) c.args.node c.index_mut-seat.result.now refl node c.index_mut-seat.ensures.value in
     let item : c.args.item < length pool.items =
     omega (arith, subst (λ (n : NetParts). c.args.item < length n.pool) (sym c.self.view_is) c.requires.item, length-map pool.items (λ (e : Entry). e.item)) in
     let there : slice_get pool.items c.args.item ≡ Some c.index.result.now =
     slice_get_read pool.items (length pool.items) c.args.item c.index.result.now refl item c.index.ensures in
-    let step = c.hand.ensures.step (handed (items_in pool.items) c.self.inside.steps.items c.args.node) (c.self.invariant.1.seated c.args.node c.index_mut-seat.result.now at) in
+    let step = c.hand.ensures.step (handed (pool_items pool.items) c.self.inside.steps.items c.args.node) (c.self.invariant.1.seated c.args.node c.index_mut-seat.result.now at) in
     subst (λ (n : NetParts). IsHanded n (seen c.self.inside.header (set seats.items c.args.node c.hand.new.seat) c.self.inside.most_items c.self.inside.most_steps pool.items
     c.push_reserved.new.self.items) c.args.item c.args.node c.state-state.result) c.self.view_is
     (subst (λ (l : List Kept). IsHanded (seen c.self.inside.header seats.items c.self.inside.most_items c.self.inside.most_steps pool.items c.self.inside.steps.items)

@@ -9,8 +9,8 @@ use Rattle.da_net.specs.declared.items.Kept.TheVariants as kept
 use Rattle.da_net.specs.declared.seats.Entry.{Entry}
 use Rattle.da_net.specs.declared.seats.Seat.{Seat}
 use Rattle.da_net.specs.Networks.{Standing, handed, Network}
-use Rattle.da_net.specs.Nets.{NetParts, is_full, is_publishing, alarm_at, claim_in, IsSame, IsPublished}
-use Rattle.da_net.specs.Seats.{kind_of, alarm_of, items_in, HasUnpublished, IsNet}
+use Rattle.da_net.specs.Nets.{NetParts, is_full, is_publishing, alarm_at, rejecting_claim, IsSameNet, IsPublished}
+use Rattle.da_net.specs.Seats.{node_kind, alarm_of, pool_items, HasUnpublished, IsNet}
 use Rattle.da_net.proofs.NetLemmas.{seen, net_publish, is_published, claimed, claim_alarm, alarm_there, same_network, room_for_step, room_for_item}
 use Rattle.da_net.proofs.nets.Net.publish.Goals as goal
 
@@ -21,10 +21,10 @@ copied-claim-requires-clause-seat g c =
     let seats = c.self.inside.seats in
     let steps = c.self.inside.steps.items in
     let node : c.args.by < length seats.items =
-    omega (arith, subst (λ (n : NetParts). c.args.by < length n.nodes) (sym c.self.view_is) c.requires.node, length-map seats.items (λ (s : Seat _). kind_of s.node)) in
+    omega (arith, subst (λ (n : NetParts). c.args.by < length n.nodes) (sym c.self.view_is) c.requires.node, length-map seats.items (λ (s : Seat _). node_kind s.node)) in
     let at : slice_get seats.items c.args.by ≡ Some c.index_mut.result.now =
     slice_get_read seats.items (length seats.items) c.args.by c.index_mut.result.now refl node c.index_mut.ensures.value in
-    (handed (items_in pool.items) steps c.args.by, c.self.invariant.1.seated c.args.by c.index_mut.result.now at)
+    (handed (pool_items pool.items) steps c.args.by, c.self.invariant.1.seated c.args.by c.index_mut.result.now at)
 
 -- it holds a claim
 pub copied-claim-requires-clause-rejects : goal.copied-claim-requires-clause-rejects
@@ -34,12 +34,12 @@ copied-claim-requires-clause-rejects g c =
     let steps = c.self.inside.steps.items in
     let net : NetParts = seen c.self.inside.header seats.items c.self.inside.most_items c.self.inside.most_steps pool.items steps in
     let node : c.args.by < length seats.items =
-    omega (arith, subst (λ (n : NetParts). c.args.by < length n.nodes) (sym c.self.view_is) c.requires.node, length-map seats.items (λ (s : Seat _). kind_of s.node)) in
+    omega (arith, subst (λ (n : NetParts). c.args.by < length n.nodes) (sym c.self.view_is) c.requires.node, length-map seats.items (λ (s : Seat _). node_kind s.node)) in
     let at : slice_get seats.items c.args.by ≡ Some c.index_mut.result.now =
     slice_get_read seats.items (length seats.items) c.args.by c.index_mut.result.now refl node c.index_mut.ensures.value in
-    subst (λ (a : Option Standing). is_some (claim_in a) ≡ true)
+    subst (λ (a : Option Standing). is_some (rejecting_claim a) ≡ true)
     (alarm_there c.self.inside.header seats.items c.self.inside.most_items c.self.inside.most_steps pool.items steps c.args.by c.index_mut.result.now at)
-    (subst (λ (n : NetParts). is_some (claim_in (alarm_at n c.args.by)) ≡ true) (sym c.self.view_is) c.requires.rejects)
+    (subst (λ (n : NetParts). is_some (rejecting_claim (alarm_at n c.args.by)) ≡ true) (sym c.self.view_is) c.requires.rejects)
 
 -- and has a room for publishing it
 pub copied-claim-requires-clause-room : goal.copied-claim-requires-clause-room
@@ -49,7 +49,7 @@ copied-claim-requires-clause-room g c =
     let steps = c.self.inside.steps.items in
     let net : NetParts = seen c.self.inside.header seats.items c.self.inside.most_items c.self.inside.most_steps pool.items steps in
     let node : c.args.by < length seats.items =
-    omega (arith, subst (λ (n : NetParts). c.args.by < length n.nodes) (sym c.self.view_is) c.requires.node, length-map seats.items (λ (s : Seat _). kind_of s.node)) in
+    omega (arith, subst (λ (n : NetParts). c.args.by < length n.nodes) (sym c.self.view_is) c.requires.node, length-map seats.items (λ (s : Seat _). node_kind s.node)) in
     let at : slice_get seats.items c.args.by ≡ Some c.index_mut.result.now =
     slice_get_read seats.items (length seats.items) c.args.by c.index_mut.result.now refl node c.index_mut.ensures.value in
     subst (λ (b : Bool). HasUnpublished c.self.inside.header.k b c.index_mut.result.now.published)
@@ -63,12 +63,12 @@ push_reserved-requires g c =
     let steps = c.self.inside.steps.items in
     let net : NetParts = seen c.self.inside.header seats.items c.self.inside.most_items c.self.inside.most_steps pool.items steps in
     let node : c.args.by < length seats.items =
-    omega (arith, subst (λ (n : NetParts). c.args.by < length n.nodes) (sym c.self.view_is) c.requires.node, length-map seats.items (λ (s : Seat _). kind_of s.node)) in
+    omega (arith, subst (λ (n : NetParts). c.args.by < length n.nodes) (sym c.self.view_is) c.requires.node, length-map seats.items (λ (s : Seat _). node_kind s.node)) in
     let at : slice_get seats.items c.args.by ≡ Some c.index_mut.result.now =
     slice_get_read seats.items (length seats.items) c.args.by c.index_mut.result.now refl node c.index_mut.ensures.value in
     let free = subst (λ (n : NetParts). is_full n (event.Publish c.args.by) ≡ false) (sym c.self.view_is) c.requires.room in
     let step : length steps < c.self.inside.most_steps = room_for_step net (event.Publish c.args.by) free in
-    let some : length (items_in pool.items) < c.self.inside.most_items = room_for_item net (event.Publish c.args.by) free refl in
+    let some : length (pool_items pool.items) < c.self.inside.most_items = room_for_item net (event.Publish c.args.by) free refl in
     let count = length-map pool.items (λ (e : Entry). e.item) in
     omega (arith, some, count, pool.ok.0, c.self.invariant.2.places)
 
@@ -79,12 +79,12 @@ push_reserved-requires-2 g c =
     let steps = c.self.inside.steps.items in
     let net : NetParts = seen c.self.inside.header seats.items c.self.inside.most_items c.self.inside.most_steps pool.items steps in
     let node : c.args.by < length seats.items =
-    omega (arith, subst (λ (n : NetParts). c.args.by < length n.nodes) (sym c.self.view_is) c.requires.node, length-map seats.items (λ (s : Seat _). kind_of s.node)) in
+    omega (arith, subst (λ (n : NetParts). c.args.by < length n.nodes) (sym c.self.view_is) c.requires.node, length-map seats.items (λ (s : Seat _). node_kind s.node)) in
     let at : slice_get seats.items c.args.by ≡ Some c.index_mut.result.now =
     slice_get_read seats.items (length seats.items) c.args.by c.index_mut.result.now refl node c.index_mut.ensures.value in
     let free = subst (λ (n : NetParts). is_full n (event.Publish c.args.by) ≡ false) (sym c.self.view_is) c.requires.room in
     let step : length steps < c.self.inside.most_steps = room_for_step net (event.Publish c.args.by) free in
-    let some : length (items_in pool.items) < c.self.inside.most_items = room_for_item net (event.Publish c.args.by) free refl in
+    let some : length (pool_items pool.items) < c.self.inside.most_items = room_for_item net (event.Publish c.args.by) free refl in
     let count = length-map pool.items (λ (e : Entry). e.item) in
     omega (arith, step, c.self.inside.steps.ok.0, c.self.invariant.3.places)
 
@@ -96,12 +96,12 @@ invariant_of-self g c =
     let steps = c.self.inside.steps.items in
     let net : NetParts = seen c.self.inside.header seats.items c.self.inside.most_items c.self.inside.most_steps pool.items steps in
     let node : c.args.by < length seats.items =
-    omega (arith, subst (λ (n : NetParts). c.args.by < length n.nodes) (sym c.self.view_is) c.requires.node, length-map seats.items (λ (s : Seat _). kind_of s.node)) in
+    omega (arith, subst (λ (n : NetParts). c.args.by < length n.nodes) (sym c.self.view_is) c.requires.node, length-map seats.items (λ (s : Seat _). node_kind s.node)) in
     let at : slice_get seats.items c.args.by ≡ Some c.index_mut.result.now =
     slice_get_read seats.items (length seats.items) c.args.by c.index_mut.result.now refl node c.index_mut.ensures.value in
     let free = subst (λ (n : NetParts). is_full n (event.Publish c.args.by) ≡ false) (sym c.self.view_is) c.requires.room in
     let step : length steps < c.self.inside.most_steps = room_for_step net (event.Publish c.args.by) free in
-    let some : length (items_in pool.items) < c.self.inside.most_items = room_for_item net (event.Publish c.args.by) free refl in
+    let some : length (pool_items pool.items) < c.self.inside.most_items = room_for_item net (event.Publish c.args.by) free refl in
     let count = length-map pool.items (λ (e : Entry). e.item) in
     let copied = c.copied-claim.ensures in (
       c.self.invariant.0,
@@ -128,15 +128,15 @@ returns-clause-kept g c =
     let steps = c.self.inside.steps.items in
     let net : NetParts = seen c.self.inside.header seats.items c.self.inside.most_items c.self.inside.most_steps pool.items steps in
     let node : c.args.by < length seats.items =
-    omega (arith, subst (λ (n : NetParts). c.args.by < length n.nodes) (sym c.self.view_is) c.requires.node, length-map seats.items (λ (s : Seat _). kind_of s.node)) in
+    omega (arith, subst (λ (n : NetParts). c.args.by < length n.nodes) (sym c.self.view_is) c.requires.node, length-map seats.items (λ (s : Seat _). node_kind s.node)) in
     let at : slice_get seats.items c.args.by ≡ Some c.index_mut.result.now =
     slice_get_read seats.items (length seats.items) c.args.by c.index_mut.result.now refl node c.index_mut.ensures.value in
-    subst (λ (n : NetParts). IsSame n (seen c.self.inside.header (set seats.items c.args.by c.copied-claim.new.seat) c.self.inside.most_items c.self.inside.most_steps
+    subst (λ (n : NetParts). IsSameNet n (seen c.self.inside.header (set seats.items c.args.by c.copied-claim.new.seat) c.self.inside.most_items c.self.inside.most_steps
     c.push_reserved.new.self.items c.push_reserved-2.new.self.items)) c.self.view_is
     (record {
       header = refl;
       nodes = ap (λ (n : Network). n.nodes) (same_network g.F.Picker.picks c.self.inside.header seats.items pool.items steps c.self.invariant.1
-          c.args.by c.index_mut.result.now c.copied-claim.new.seat at (ap kind_of c.copied-claim.ensures.node_is));
+          c.args.by c.index_mut.result.now c.copied-claim.new.seat at (ap node_kind c.copied-claim.ensures.node_is));
       most_items = refl;
       most_steps = refl;
     })
@@ -149,11 +149,11 @@ returns-clause-published g c =
     let steps = c.self.inside.steps.items in
     let net : NetParts = seen c.self.inside.header seats.items c.self.inside.most_items c.self.inside.most_steps pool.items steps in
     let node : c.args.by < length seats.items =
-    omega (arith, subst (λ (n : NetParts). c.args.by < length n.nodes) (sym c.self.view_is) c.requires.node, length-map seats.items (λ (s : Seat _). kind_of s.node)) in
+    omega (arith, subst (λ (n : NetParts). c.args.by < length n.nodes) (sym c.self.view_is) c.requires.node, length-map seats.items (λ (s : Seat _). node_kind s.node)) in
     let at : slice_get seats.items c.args.by ≡ Some c.index_mut.result.now =
     slice_get_read seats.items (length seats.items) c.args.by c.index_mut.result.now refl node c.index_mut.ensures.value in
     let copied = c.copied-claim.ensures in
-    let length_is : c.len-place.result ≡ length (items_in pool.items) =
+    let length_is : c.len-place.result ≡ length (pool_items pool.items) =
     omega (arith, c.len-place.ensures, pool.ok.0, length-map pool.items (λ (e : Entry). e.item)) in
     subst (λ (n : NetParts). IsPublished n (seen c.self.inside.header (set seats.items c.args.by c.copied-claim.new.seat) c.self.inside.most_items c.self.inside.most_steps
     c.push_reserved.new.self.items c.push_reserved-2.new.self.items) c.args.by c.len-place.result) c.self.view_is

@@ -3,7 +3,7 @@ use Rattle.std.proofs.lemmas.List.{length-map}
 use Rattle.da_net.specs.declared.seats.Seat.{Seat}
 use Rattle.da_net.specs.declared.seats.Entry.{Entry}
 use Rattle.da_net.specs.Nets.{NetParts}
-use Rattle.da_net.specs.Seats.{kind_of}
+use Rattle.da_net.specs.Seats.{node_kind}
 use Rattle.da_net.proofs.RefusalLemmas.{no_item, no_node, both_there}
 use Rattle.da_net.proofs.nets.Net.try_hand.Goals as goal
 
@@ -24,7 +24,7 @@ returns-then-len-node-clause-refusal g c =
     (subst (λ (n : NetParts). c.args.item < length n.pool) c.self.view_is
     (omega (arith, c.if-len-item.false, c.len.ensures, pool.ok.0, length-map pool.items (λ (e : Entry). e.item))))
     (subst (λ (n : NetParts). length n.nodes ≤ c.args.node) c.self.view_is
-    (omega (arith, c.if-len-node.true, c.len-2.ensures, seats.ok.0, length-map seats.items (λ (s : Seat _). kind_of s.node))))
+    (omega (arith, c.if-len-node.true, c.len-2.ensures, seats.ok.0, length-map seats.items (λ (s : Seat _). node_kind s.node))))
 
 -- else it is
 pub hand-requires-clause-item : goal.hand-requires-clause-item
@@ -38,7 +38,7 @@ pub hand-requires-clause-node : goal.hand-requires-clause-node
 hand-requires-clause-node g c =
     let seats = c.self.inside.seats in
     subst (λ (n : NetParts). c.args.node < length n.nodes) c.self.view_is
-    (omega (arith, c.if-len-node.false, c.len-2.ensures, seats.ok.0, length-map seats.items (λ (s : Seat _). kind_of s.node)))
+    (omega (arith, c.if-len-node.false, c.len-2.ensures, seats.ok.0, length-map seats.items (λ (s : Seat _). node_kind s.node)))
 
 -- where both are, handing does it
 pub returns-clause-kept : goal.returns-clause-kept
@@ -56,4 +56,4 @@ returns-clause-refusal g c =
     (subst (λ (n : NetParts). c.args.item < length n.pool) c.self.view_is
     (omega (arith, c.if-len-item.false, c.len.ensures, pool.ok.0, length-map pool.items (λ (e : Entry). e.item))))
     (subst (λ (n : NetParts). c.args.node < length n.nodes) c.self.view_is
-    (omega (arith, c.if-len-node.false, c.len-2.ensures, seats.ok.0, length-map seats.items (λ (s : Seat _). kind_of s.node))))
+    (omega (arith, c.if-len-node.false, c.len-2.ensures, seats.ok.0, length-map seats.items (λ (s : Seat _). node_kind s.node))))

@@ -2,7 +2,7 @@ use Rattle.std.proofs.Common.{◌∙◌, ◌<◌, ◌≤◌, length, sym, subst,
 use Rattle.std.proofs.lemmas.List.{length-map}
 use Rattle.da_net.specs.declared.seats.Seat.{Seat}
 use Rattle.da_net.specs.Nets.{NetParts}
-use Rattle.da_net.specs.Seats.{kind_of}
+use Rattle.da_net.specs.Seats.{node_kind}
 use Rattle.da_net.proofs.RefusalLemmas.{no_publisher, not_rejecting, has_done, may_publish}
 use Rattle.da_net.proofs.nets.Net.try_publish.Goals as goal
 
@@ -12,20 +12,20 @@ returns-then-len-by-clause-refusal g c =
     let seats = c.self.inside.seats in
     no_publisher c.args.self.now c.args.by
     (subst (λ (n : NetParts). length n.nodes ≤ c.args.by) c.self.view_is
-    (omega (arith, c.if-len-by.true, c.len.ensures, seats.ok.0, length-map seats.items (λ (s : Seat _). kind_of s.node))))
+    (omega (arith, c.if-len-by.true, c.len.ensures, seats.ok.0, length-map seats.items (λ (s : Seat _). node_kind s.node))))
 
 -- else it is there
 pub is_rejecting-requires : goal.is_rejecting-requires
 is_rejecting-requires g c =
     let seats = c.self.inside.seats in
     subst (λ (n : NetParts). c.args.by < length n.nodes) c.self.view_is
-    (omega (arith, c.if-len-by.false, c.len.ensures, seats.ok.0, length-map seats.items (λ (s : Seat _). kind_of s.node)))
+    (omega (arith, c.if-len-by.false, c.len.ensures, seats.ok.0, length-map seats.items (λ (s : Seat _). node_kind s.node)))
 
 pub has_published-requires : goal.has_published-requires
 has_published-requires g c =
     let seats = c.self.inside.seats in
     subst (λ (n : NetParts). c.args.by < length n.nodes) c.self.view_is
-    (omega (arith, c.if-len-by.false, c.len.ensures, seats.ok.0, length-map seats.items (λ (s : Seat _). kind_of s.node)))
+    (omega (arith, c.if-len-by.false, c.len.ensures, seats.ok.0, length-map seats.items (λ (s : Seat _). node_kind s.node)))
 
 -- it doesn't reject
 pub returns-then-not-is_rejecting-clause-refusal : goal.returns-then-not-is_rejecting-clause-refusal
@@ -33,7 +33,7 @@ returns-then-not-is_rejecting-clause-refusal g c =
     let seats = c.self.inside.seats in
     not_rejecting c.args.self.now c.args.by
     (subst (λ (n : NetParts). c.args.by < length n.nodes) c.self.view_is
-    (omega (arith, c.if-len-by.false, c.len.ensures, seats.ok.0, length-map seats.items (λ (s : Seat _). kind_of s.node))))
+    (omega (arith, c.if-len-by.false, c.len.ensures, seats.ok.0, length-map seats.items (λ (s : Seat _). node_kind s.node))))
     (sym c.is_rejecting.ensures ∙ c.if-not-is_rejecting.true)
 
 -- it has published its claim
@@ -42,7 +42,7 @@ returns-then-has_published-clause-refusal g c =
     let seats = c.self.inside.seats in
     has_done c.args.self.now c.args.by
     (subst (λ (n : NetParts). c.args.by < length n.nodes) c.self.view_is
-    (omega (arith, c.if-len-by.false, c.len.ensures, seats.ok.0, length-map seats.items (λ (s : Seat _). kind_of s.node))))
+    (omega (arith, c.if-len-by.false, c.len.ensures, seats.ok.0, length-map seats.items (λ (s : Seat _). node_kind s.node))))
     (sym c.is_rejecting.ensures ∙ c.if-not-is_rejecting.false)
     (sym c.has_published.ensures ∙ c.if-has_published.true)
 
@@ -51,7 +51,7 @@ pub publish-requires-clause-node : goal.publish-requires-clause-node
 publish-requires-clause-node g c =
     let seats = c.self.inside.seats in
     subst (λ (n : NetParts). c.args.by < length n.nodes) c.self.view_is
-    (omega (arith, c.if-len-by.false, c.len.ensures, seats.ok.0, length-map seats.items (λ (s : Seat _). kind_of s.node)))
+    (omega (arith, c.if-len-by.false, c.len.ensures, seats.ok.0, length-map seats.items (λ (s : Seat _). node_kind s.node)))
 
 pub publish-requires-clause-room : goal.publish-requires-clause-room
 publish-requires-clause-room g c = c.requires.room
@@ -71,6 +71,6 @@ returns-clause-refusal g c =
     let seats = c.self.inside.seats in
     may_publish c.args.self.now c.args.by
     (subst (λ (n : NetParts). c.args.by < length n.nodes) c.self.view_is
-    (omega (arith, c.if-len-by.false, c.len.ensures, seats.ok.0, length-map seats.items (λ (s : Seat _). kind_of s.node))))
+    (omega (arith, c.if-len-by.false, c.len.ensures, seats.ok.0, length-map seats.items (λ (s : Seat _). node_kind s.node))))
     (sym c.is_rejecting.ensures ∙ c.if-not-is_rejecting.false)
     (sym c.has_published.ensures ∙ c.if-has_published.false)

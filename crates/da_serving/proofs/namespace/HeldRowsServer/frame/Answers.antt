@@ -1,7 +1,7 @@
 use Rattle.std.proofs.Common.{◌∙◌, ap, sym, subst}
 use Rattle.square_layout.specs.Blocks.{SquareShares}
 use Rattle.axis_roots.specs.Grids.{IsHeaderOf}
-use Rattle.square_serve.specs.Shares.{shares_of}
+use Rattle.square_serve.specs.Shares.{namespace_shares}
 use Rattle.da_serving.proofs.AnswerLemmas.{complete_short}
 use Rattle.da_serving.proofs.namespace.HeldRowsServer.frame.Goals as goal
 
@@ -17,7 +17,7 @@ returns-in-Ok-clause-allowed c = λ square header is. (
   c.in-Ok.found,
   record {
     complete = c.in-Ok.ensures.complete header (subst (IsHeaderOf header) (sym is.1) is.0);
-    shares = c.in-Ok.ensures.shares ∙ ap (λ (s : SquareShares). shares_of s c.args.name) is.1;
+    shares = c.in-Ok.ensures.shares ∙ ap (λ (s : SquareShares). namespace_shares s c.args.name) is.1;
   },
   c.answer_frame.ensures.value,
 )

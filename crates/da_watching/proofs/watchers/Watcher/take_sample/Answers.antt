@@ -4,7 +4,7 @@ use Rattle.axis_roots.specs.Messages.{message_refusal}
 use Rattle.axis_roots.specs.Openings.{IsProved}
 use Rattle.light_node.specs.declared.events.Event.TheVariants.{Sample}
 use Rattle.light_node.specs.Events.{IsState}
-use Rattle.light_node.specs.Nodes.{NodeParts, StandsFor}
+use Rattle.light_node.specs.Nodes.{NodeParts, NodeStands}
 use Rattle.frame_payloads.specs.declared.refusals.Reason.{Reason}
 use Rattle.da_talk.specs.Replies.{refusal}
 use Rattle.da_watching.specs.Watchers.{WatchParts}
@@ -39,7 +39,7 @@ returns-clause-told g c =
     inr (
       subst (λ (h : Roots). IsProved h c.args.message.now) header (c.in_default.ensures.accepts.0 refl),
       λ plan events stands.
-          let stood = subst (λ (w : WatchParts g.row.F.Denot). StandsFor g.F.Picker.picks w.node plan events) (sym c.self.view_is) stands in
+          let stood = subst (λ (w : WatchParts g.row.F.Denot). NodeStands g.F.Picker.picks w.node plan events) (sym c.self.view_is) stands in
           let stands_now = c.in_default.ensures.stands plan events stood in (
             stands_now,
             c.state-before.result,

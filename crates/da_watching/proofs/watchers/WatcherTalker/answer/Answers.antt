@@ -11,7 +11,7 @@ use Rattle.da_talk.specs.Replies.{refusal}
 use Rattle.da_watching.specs.Sizes.{most_claim}
 use Rattle.da_watching.specs.Events.{handed_event}
 use Rattle.da_talk.specs.Handed.{asks_state}
-use Rattle.da_watching.specs.Watched.{events_of, IsRefusedAs}
+use Rattle.da_watching.specs.Watched.{frame_events, IsRefusedAs}
 use Rattle.da_watching.specs.Watchers.{WatchParts, HasFed}
 use Rattle.da_watching.proofs.LedLemmas.{no_claim, none_led, led_asked, led_none, led_sample, led_false, led_accepted}
 use Rattle.da_watching.proofs.ReplyLemmas.{replies_asked, replies_lie, replies_seen}
@@ -29,12 +29,12 @@ returns-then-asks_state-clause-due g c = λ on first frames raw fed counted hand
     let led = subst (λ (w : WatchParts g.row.F.Denot). HasFed g.F.Picker.picks first w frames) (sym c.self.view_is) fed in
     let none = no_claim _ (subst (λ (w : WatchParts g.row.F.Denot). is_some w.claim ≡ false) (sym c.self.view_is) c.requires.open) in
     let header : c.self.inside.node.header ≡ first.header = c.self.invariant.0 ∙ led.header in
-    let before : NoneAccepted first.header (events_of frames) = none_led g.F.Picker.picks first c.args.self.now frames fed going in
-    let told = c.put_verdict-status.ensures.written first.plan (events_of frames) (led.node none)
-    (subst (λ (h : Roots). NoneAccepted h (events_of frames)) (sym header) before) in
+    let before : NoneAccepted first.header (frame_events frames) = none_led g.F.Picker.picks first c.args.self.now frames fed going in
+    let told = c.put_verdict-status.ensures.written first.plan (frame_events frames) (led.node none)
+    (subst (λ (h : Roots). NoneAccepted h (frame_events frames)) (sym header) before) in
     replies_asked first.header first.plan frames raw c.put_verdict-status.new.text.items
     (none_led g.F.Picker.picks first c.args.self.now (frames ++ raw ∷ []) (led_asked g.F.Picker.picks first c.args.self.now frames fed raw asks) going) asks told.0
-    (subst (λ (h : Roots). IsLight h first.plan (events_of frames) told.0) header told.1) told.2
+    (subst (λ (h : Roots). IsLight h first.plan (frame_events frames) told.0) header told.1) told.2
 
 -- a sample
 pub returns-in-Sample-clause-led : goal.returns-in-Sample-clause-led

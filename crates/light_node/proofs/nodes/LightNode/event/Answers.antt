@@ -3,7 +3,7 @@ use Rattle.data_header.specs.Headers.{Roots}
 use Rattle.light_node.specs.declared.events.Event.{Event}
 use Rattle.light_node.specs.declared.events.Event.TheVariants.{Sample, Claim}
 use Rattle.light_node.specs.Events.{IsState}
-use Rattle.light_node.specs.Nodes.{NodeParts, StandsFor}
+use Rattle.light_node.specs.Nodes.{NodeParts, NodeStands}
 use Rattle.light_node.proofs.nodes.LightNode.event.Goals.{in-Sample, in-Claim}
 use Rattle.light_node.proofs.nodes.LightNode.event.Goals as goal
 
@@ -11,12 +11,12 @@ use Rattle.light_node.proofs.nodes.LightNode.event.Goals as goal
 pub returns-clause-stands : goal.returns-clause-stands
 returns-clause-stands g c = λ plan events stands. elim c.match-event.branch [
   | in-Sample w ↦
-      subst (λ (e : Event). StandsFor g.F.Picker.picks c.match-event.self plan (events ++ e ∷ [])) (sym w.in-Sample.is)
-      (subst (λ (n : NodeParts g.row.F.Denot). StandsFor g.F.Picker.picks n plan (events ++ Sample w.in-Sample.message
+      subst (λ (e : Event). NodeStands g.F.Picker.picks c.match-event.self plan (events ++ e ∷ [])) (sym w.in-Sample.is)
+      (subst (λ (n : NodeParts g.row.F.Denot). NodeStands g.F.Picker.picks n plan (events ++ Sample w.in-Sample.message
       ∷ [])) (sym w.self-is) (w.sample.ensures.stands plan events stands))
   | in-Claim w ↦
-      subst (λ (e : Event). StandsFor g.F.Picker.picks c.match-event.self plan (events ++ e ∷ [])) (sym w.in-Claim.is)
-      (subst (λ (n : NodeParts g.row.F.Denot). StandsFor g.F.Picker.picks n plan (events ++ Claim w.in-Claim.claim ∷
+      subst (λ (e : Event). NodeStands g.F.Picker.picks c.match-event.self plan (events ++ e ∷ [])) (sym w.in-Claim.is)
+      (subst (λ (n : NodeParts g.row.F.Denot). NodeStands g.F.Picker.picks n plan (events ++ Claim w.in-Claim.claim ∷
       [])) (sym w.self-is) (w.accuse.ensures.stands plan events stands))
 ]
 

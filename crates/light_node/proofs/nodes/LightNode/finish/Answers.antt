@@ -3,14 +3,14 @@ use Rattle.std.proofs.lemmas.List.{nil_from_length}
 use Rattle.namespace_id.specs.declared.cells.Cell.{Cell}
 use Rattle.namespace_id.specs.Cells.{CellList}
 use Rattle.light_node.specs.Events.{NoneAccepted, IsFirstAccepted, AllShown, AreWaitedFor}
-use Rattle.light_node.specs.Nodes.{NodeParts, StandsFor}
+use Rattle.light_node.specs.Nodes.{NodeParts, NodeStands}
 use Rattle.light_node.proofs.StateLemmas.{are_waited_for_at, none_waited_for}
 use Rattle.light_node.proofs.nodes.LightNode.finish.Goals as goal
 
 -- none is waited for
 pub returns-then-is_empty : goal.returns-then-is_empty
 returns-then-is_empty g c = λ plan events stands.
-    let stood = subst (λ (n : NodeParts g.row.F.Denot). StandsFor g.F.Picker.picks n plan events) (sym c.self.view_is)
+    let stood = subst (λ (n : NodeParts g.row.F.Denot). NodeStands g.F.Picker.picks n plan events) (sym c.self.view_is)
     stands in
     subst (λ (n : NodeParts g.row.F.Denot). NoneAccepted n.header events × AllShown n.header plan events)
     c.self.view_is (
@@ -28,7 +28,7 @@ returns-then-is_empty g c = λ plan events stands.
 -- or some are
 pub returns : goal.returns
 returns g c = λ plan events stands.
-    let stood = subst (λ (n : NodeParts g.row.F.Denot). StandsFor g.F.Picker.picks n plan events) (sym c.self.view_is)
+    let stood = subst (λ (n : NodeParts g.row.F.Denot). NodeStands g.F.Picker.picks n plan events) (sym c.self.view_is)
     stands in
     subst (λ (n : NodeParts g.row.F.Denot). NoneAccepted n.header events × (c.into_cells.result.list ≡ [] → ⊥)
     × AreWaitedFor n.header plan events c.into_cells.result) c.self.view_is (

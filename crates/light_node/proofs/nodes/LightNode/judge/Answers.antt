@@ -1,12 +1,12 @@
 use Rattle.std.proofs.Common.{◌∙◌, List, Bool, ◌++◌, length, take, drop, true≢false, refl, sym, subst, ap}
-use Rattle.light_node.specs.Nodes.{NodeParts, StandsFor}
+use Rattle.light_node.specs.Nodes.{NodeParts, NodeStands}
 use Rattle.light_node.proofs.StepLemmas.{lent_marks, before_at, still_marked, stands_refused, stands_sample}
 use Rattle.light_node.proofs.nodes.LightNode.judge.Goals as goal
 
 -- one that isn't proved
 pub returns-in-Err-clause-stands : goal.returns-in-Err-clause-stands
 returns-in-Err-clause-stands g c = λ plan events stands.
-    let stood = subst (λ (n : NodeParts g.row.F.Denot). StandsFor g.F.Picker.picks n plan events) (sym c.self.view_is)
+    let stood = subst (λ (n : NodeParts g.row.F.Denot). NodeStands g.F.Picker.picks n plan events) (sym c.self.view_is)
     stands in
     stands_refused g.F.Picker.picks _ plan events stood c.args.message.now
     (λ proved. true≢false (sym (c.in-Err.ensures.accepts.1 proved)))
@@ -29,7 +29,7 @@ first_unmarked-self-inside-requires-clause-before g c =
 -- and the cell of a proved sample is marked
 pub returns-clause-stands : goal.returns-clause-stands
 returns-clause-stands g c = λ plan events stands.
-    let stood = subst (λ (n : NodeParts g.row.F.Denot). StandsFor g.F.Picker.picks n plan events) (sym c.self.view_is)
+    let stood = subst (λ (n : NodeParts g.row.F.Denot). NodeStands g.F.Picker.picks n plan events) (sym c.self.view_is)
     stands in
     let rest = drop (length c.mark.new.shown) c.self.inside.shown.items in
     let marks = take c.self.inside.shown.len (c.mark.new.shown ++ rest) in

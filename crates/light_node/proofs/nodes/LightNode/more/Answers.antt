@@ -2,7 +2,7 @@ use Rattle.std.proofs.Common.{◌≡◌, ◌+◌, ◌≤◌, ℕ, List, length, 
 use Rattle.std.specs.List.{list_all}
 use Rattle.namespace_id.specs.declared.cells.Cell.{Cell}
 use Rattle.namespace_id.specs.Cells.{is_in_square}
-use Rattle.light_node.specs.Nodes.{NodeParts, StandsFor}
+use Rattle.light_node.specs.Nodes.{NodeParts, NodeStands}
 use Rattle.light_node.proofs.StepLemmas.{before_at, unmarked_at}
 use Rattle.light_node.proofs.PickLemmas.{wanted_inside, next_within, front_marked, good_more, stands_more}
 use Rattle.light_node.proofs.nodes.LightNode.more.Goals as goal
@@ -64,7 +64,7 @@ invariant_of-self-2 g c = (
 -- it stands for the longer plan
 pub returns-clause-stands : goal.returns-clause-stands
 returns-clause-stands g c = λ plan events stands.
-    let stood = subst (λ (n : NodeParts g.row.F.Denot). StandsFor g.F.Picker.picks n plan events) (sym c.self.view_is)
+    let stood = subst (λ (n : NodeParts g.row.F.Denot). NodeStands g.F.Picker.picks n plan events) (sym c.self.view_is)
     stands in
     let fits = subst (λ (n : NodeParts g.row.F.Denot). n.planned + c.args.count ≤ n.limit) (sym c.self.view_is)
     c.requires.limit in

@@ -5,7 +5,7 @@ use Rattle.data_header.specs.Headers.{Roots}
 use Rattle.namespace_id.specs.declared.cells.Cell.{Cell}
 use Rattle.namespace_id.specs.Cells.{is_width}
 use Rattle.namespace_id.proofs.WidthLemmas.{is_width-le}
-use Rattle.light_node.specs.Events.{IsShown}
+use Rattle.light_node.specs.Events.{IsShownCell}
 use Rattle.light_node.specs.Plans.{PicksInside}
 use Rattle.light_node.specs.Nodes.{is_marked}
 use Rattle.light_node.proofs.StepLemmas.{good_new}
@@ -37,7 +37,7 @@ no_mark (suc n) (suc i) = no_mark n i
 
 -- so no cell is marked, as none is shown
 none_marked : (n : ℕ) (header : Roots) (marks : List Bool) (cell : Cell) → marks ≡ replicate n false
-    → (is_marked header.k marks cell ≡ true) ↔ IsShown header [] cell
+    → (is_marked header.k marks cell ≡ true) ↔ IsShownCell header [] cell
 none_marked n header marks cell e = (
   λ marked. absurd (true≢false (sym marked
       ∙ ap (λ (l : List Bool). is_marked header.k l cell) e ∙ no_mark n (cell.row * (2 * header.k) + cell.col))),

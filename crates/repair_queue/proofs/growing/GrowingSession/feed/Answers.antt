@@ -1,6 +1,6 @@
 use Rattle.std.proofs.Common.{◌∙◌, [], ◌∷◌, ◌++◌, true, false, refl, sym, subst}
 use Rattle.axis_roots.specs.Proved.{kept_message}
-use Rattle.repair_queue.specs.SessionParts.{SessionParts, StandsFor}
+use Rattle.repair_queue.specs.SessionParts.{SessionParts, SessionStands}
 use Rattle.repair_queue.proofs.Places.GrownLemmas.{with_pool, grown_open, grown_parts}
 use Rattle.repair_queue.proofs.Feeding.SessionLemmas.{open_of}
 use Rattle.repair_queue.proofs.Feeding.ViewLemmas.{step_stands, ended_stands}
@@ -9,9 +9,9 @@ use Rattle.repair_queue.proofs.growing.GrowingSession.feed.Goals as goal
 -- what ended it before is an answer with one sample more
 pub returns-then-is_some-clause-stands : goal.returns-then-is_some-clause-stands
 returns-then-is_some-clause-stands c = λ ms stand.
-    subst (λ (s : SessionParts). StandsFor s (ms ++ kept_message c.args.message ∷ [])) c.self.view_is
+    subst (λ (s : SessionParts). SessionStands s (ms ++ kept_message c.args.message ∷ [])) c.self.view_is
     (ended_stands c.self.inside.header c.self.inside.board c.self.inside.tools c.self.inside.ended false (kept_message c.args.message)
-    (sym c.is_some.ensures ∙ c.if-is_some.true) refl c.self.invariant.open_board ms (subst (λ (s : SessionParts). StandsFor s ms) (sym c.self.view_is) stand))
+    (sym c.is_some.ensures ∙ c.if-is_some.true) refl c.self.invariant.open_board ms (subst (λ (s : SessionParts). SessionStands s ms) (sym c.self.view_is) stand))
 
 -- where there is no memory, the same samples are kept
 pub invariant_of-self : goal.invariant_of-self
@@ -39,5 +39,5 @@ returns-clause-stands c = λ ms stand.
     (kept_message c.args.message) (sym c.is_some.ensures ∙ c.if-is_some.false) refl
     (grown_open c.self.inside.header c.self.inside.board c.make_place.new.self c.make_place.ensures.kept c.self.inside.tools c.self.inside.ended c.self.invariant.open_board)
     c.step.ensures.steps ms
-    (subst (λ (s : SessionParts). StandsFor s ms)
+    (subst (λ (s : SessionParts). SessionStands s ms)
     (sym (grown_parts c.self.inside.header c.self.inside.board c.make_place.new.self c.make_place.ensures.kept c.self.inside.ended ∙ c.self.view_is)) stand)

@@ -2,7 +2,7 @@ use Rattle.std.proofs.Common.{◌≡◌, ◌∙◌, ℕ, ◌<◌, [], sym, ap, s
 use Rattle.std.specs.Prelude.{None}
 use Rattle.data_header.specs.Headers.{Roots}
 use Rattle.namespace_id.proofs.WidthLemmas.{is_width-pos}
-use Rattle.repair_queue.specs.Boards.{given_of, decided_of, share_of}
+use Rattle.repair_queue.specs.Boards.{given_of, decided_of, shared_of}
 use Rattle.repair_queue.specs.Tools.{AreTools}
 use Rattle.repair_queue.proofs.Feeding.StandLemmas.{nothing_stands}
 use Rattle.repair_queue.proofs.Counting.CountedLemmas.{nothing_rests}
@@ -27,5 +27,5 @@ invariant_of-result c =
 pub returns-clause-stands : goal.returns-clause-stands
 returns-clause-stands c =
     keeps_stands c.in_ok-header.header c.in_ok-board.board c.in_ok-tools.tools None (invariant_of-result c).open_board []
-    (nothing_stands c.in_ok-header.header (given_of c.in_ok-board.board) (decided_of c.in_ok-board.board) (share_of c.in_ok-board.board)
+    (nothing_stands c.in_ok-header.header (given_of c.in_ok-board.board) (decided_of c.in_ok-board.board) (shared_of c.in_ok-board.board)
     c.in_ok-board.ensures.empty c.in_ok-board.ensures.undecided)
