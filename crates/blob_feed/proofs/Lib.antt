@@ -8,7 +8,7 @@ mod FedLemmas
 mod OnceLemmas
 mod StandLemmas
 mod OwnLemmas
-mod RowLemmas
+pub mod RowLemmas
 mod BlockLemmas
 mod SquareLemmas
 mod StayLemmas

@@ -11,7 +11,8 @@ use Rattle.proto_fields.proofs.FieldLemmas.{no_fields, no_field, first_field}
 use Rattle.celestia_pb.specs.declared.extended.Extended.{Extended}
 use Rattle.celestia_pb.specs.Reading.{then_read, or_left, with_offset}
 use Rattle.celestia_pb.specs.Headers.{dah_left}
-use Rattle.celestia_pb.specs.Extended.{from_field, then_from, none_left, none_of, unless, one_field, bytes_of_value, lenient_part, with_rest, submessage, hash_size, if_hash, hash_front, data_hash_left, header_left, roots_left, once_at_most, both_read, besides, extended_value}
+use Rattle.celestia_pb.specs.Extended.{from_field, then_from, none_left, none_of, unless, one_field, bytes_of_value, lenient_part, with_rest, submessage, if_hash, hash_front, data_hash_left, header_left, roots_left, once_at_most, both_read, besides, extended_value}
+use Rattle.namespace_id.specs.Sizes.{hash_size}
 use Rattle.celestia_pb.specs.ExtendedLaws.{fields_numbered, IsOnceAtMost, HasDataHash, IsExtended}
 use Rattle.celestia_pb.proofs.Steps.{placed_ok}
 use Rattle.celestia_pb.proofs.ExtendedFields.{from-none, from_here, from_behind}

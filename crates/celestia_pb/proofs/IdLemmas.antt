@@ -13,7 +13,7 @@ use Rattle.namespace_id.specs.Bytes.{AreBytes}
 use Rattle.namespace_id.specs.Names.{IsNamespace}
 use Rattle.proto_fields.proofs.CanonicalVarints.{front_fits, behind_fits}
 use Rattle.celestia_pb.specs.Reading.{then_read, or_left, with_offset}
-use Rattle.celestia_pb.specs.Samples.{IsCell}
+use Rattle.namespace_id.specs.Cells.{IsCell}
 use Rattle.celestia_pb.specs.Ids.{sample_id_text, namespace_id_text, behind_height, short_at, name_front, id_end, after_height, id_cell, id_col, id_row, id_name, sample_id_left, namespace_id_left, sample_id_value, namespace_id_value}
 use Rattle.celestia_pb.proofs.Steps.{cond_ok, then_ok, placed_ok, same_ok}
 

@@ -21,7 +21,8 @@ use Rattle.celestia_pb.specs.declared.sample.Sample.{Sample}
 use Rattle.celestia_pb.specs.Reading.{then_read, or_left, with_offset}
 use Rattle.celestia_pb.specs.Messages.{optional_message}
 use Rattle.celestia_pb.specs.Inclusions.{inclusion_text, inclusion_left}
-use Rattle.celestia_pb.specs.Samples.{IsCell, IsSample, share_message, axis_number, place_on, sample_text, if_share, share_front, share_end, share_left, axis_of_number, axis_at, place_wanted, only_nodes, path_left, sample_of, sample_axis, sample_path, sample_left, sample_value}
+use Rattle.celestia_pb.specs.Samples.{IsSample, share_message, axis_number, place_on, sample_text, if_share, share_front, share_end, share_left, axis_of_number, axis_at, place_wanted, only_nodes, path_left, sample_of, sample_axis, sample_path, sample_left, sample_value}
+use Rattle.namespace_id.specs.Cells.{IsCell}
 use Rattle.celestia_pb.proofs.Steps.{same_ok, cond_ok, then_ok, placed_ok}
 use Rattle.celestia_pb.proofs.DigestLemmas.{field_fits}
 use Rattle.celestia_pb.proofs.MessageLemmas.{field_few, message_is_read, message_back}

@@ -3,12 +3,11 @@ use Rattle.std.proofs.Common.{◌≡◌, ◌∙◌, ℕ, zero, suc, ◌*◌, ◌
 use Rattle.std.proofs.lemmas.List.{take_at, drop_at, length-drop, nil_from_length}
 use Rattle.namespace_id.specs.declared.shares.Share.{Share}
 use Rattle.namespace_id.specs.Bytes.{AreBytes}
-use Rattle.namespace_id.specs.Shares.{AreShares}
+use Rattle.namespace_id.specs.Shares.{AreShares, share_bytes}
 use Rattle.namespace_id.proofs.StringLemmas.{AreBytes-take, AreBytes-drop}
 use Rattle.celestia_pb.specs.EntryLists.{entries}
 use Rattle.celestia_pb.specs.ShareLists.{share_behind, shares_behind}
 use Rattle.celestia_pb.proofs.EntryListLemmas.{entries-none, entries-next}
-use Rattle.celestia_pb.specs.Ods.{share_bytes}
 
 -- ---- one behind the other
 

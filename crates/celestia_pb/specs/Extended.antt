@@ -9,6 +9,7 @@ use Rattle.celestia_pb.specs.declared.extended.Parts.{Parts}
 use Rattle.celestia_pb.specs.Reading.{then_read, or_left, with_offset}
 use Rattle.celestia_pb.specs.Digests.{entry_size, digests_in}
 use Rattle.celestia_pb.specs.Headers.{dah_left}
+use Rattle.namespace_id.specs.Sizes.{hash_size}
 
 -- ---- fields that are looked for
 
@@ -71,10 +72,6 @@ abbrev pub submessage : {A : Type 0} → (List ℕ → Result A ℕ) → List �
 submessage said bytes = then_read (λ part rest. with_rest rest (said part)) (or_left bytes (lenient_part bytes))
 
 -- ---- the parts
-
--- the bytes of a data hash
-abbrev pub hash_size : ℕ
-hash_size = 32
 
 -- bytes that were read, where they are a data hash
 abbrev pub if_hash : List ℕ × List ℕ → Option (List ℕ × List ℕ)

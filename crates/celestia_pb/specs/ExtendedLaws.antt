@@ -4,7 +4,8 @@ use Rattle.proto_fields.specs.Fields.{FieldParts, fields_of}
 use Rattle.proto_fields.specs.Canonical.{part_field}
 use Rattle.celestia_pb.specs.declared.extended.Extended.{Extended}
 use Rattle.celestia_pb.specs.Headers.{dah_value}
-use Rattle.celestia_pb.specs.Extended.{hash_size, extended_value}
+use Rattle.celestia_pb.specs.Extended.{extended_value}
+use Rattle.namespace_id.specs.Sizes.{hash_size}
 
 -- a field, if it has this number
 abbrev pub own_field : ℕ → FieldParts → List FieldParts

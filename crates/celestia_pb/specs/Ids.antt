@@ -8,7 +8,7 @@ use Rattle.namespace_id.specs.Bytes.{AreBytes}
 use Rattle.namespace_id.specs.Names.{IsNamespace}
 use Rattle.namespace_id.specs.Sizes.{namespace_size}
 use Rattle.celestia_pb.specs.Reading.{then_read, or_left, with_offset}
-use Rattle.celestia_pb.specs.Samples.{IsCell}
+use Rattle.namespace_id.specs.Cells.{IsCell}
 
 -- ---- written
 

@@ -1,18 +1,13 @@
 -- An original square as its shares alone, row by row, as nodes send and store it: k * k of 512 bytes, and nothing else.
-use Rattle.std.specs.Prelude.{◌≡◌, ℕ, ◌*◌, ◌/◌, ◌%◌, ◌==◌, nat_lt, List, length, flat_map, Option, Some, None, Result, Ok, Err, if◌then◌else◌}
-use Rattle.namespace_id.specs.declared.shares.Share.{Share}
+use Rattle.std.specs.Prelude.{◌≡◌, ℕ, ◌*◌, ◌/◌, ◌%◌, ◌==◌, nat_lt, List, length, Option, Some, None, Result, Ok, Err, if◌then◌else◌}
 use Rattle.namespace_id.specs.Bytes.{AreBytes}
-use Rattle.namespace_id.specs.Shares.{AreShares}
+use Rattle.namespace_id.specs.Shares.{AreShares, share_bytes}
 use Rattle.namespace_id.specs.Sizes.{share_size, most_shares}
 use Rattle.square_layout.specs.Blocks.{SquareShares, IsSquare}
 use Rattle.square_layout.specs.Layout.{holding_from}
 use Rattle.celestia_pb.specs.ShareLists.{shares_behind}
 
 -- ---- written
-
--- the bytes of shares, one after another
-abbrev pub share_bytes : List Share → List ℕ
-share_bytes shares = flat_map (λ (share : Share). share.0) shares
 
 -- the bytes of a square
 abbrev pub ods_text : SquareShares → List ℕ

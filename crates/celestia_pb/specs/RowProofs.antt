@@ -1,9 +1,9 @@
 -- nmt's message Proof as the answer for a row has it: of shares from a place on, or, where no share is shown, of a namespace's
 -- absence, by the hash of the leaf at a place. The first place stands in field 1, the one behind the last in field 2, the nodes
 -- from left to right in fields 3, the leaf hash of an absence in field 4, and in field 5 that the parity namespace is passed over.
-use Rattle.std.specs.Prelude.{ℕ, ◌+◌, ◌*◌, ◌^◌, ◌==◌, ◌&&◌, nat_lt, Bool, List, ◌++◌, length, Result, Ok, Err, if◌then◌else◌}
+use Rattle.std.specs.Prelude.{ℕ, ◌+◌, ◌^◌, ◌==◌, ◌&&◌, nat_lt, Bool, List, ◌++◌, length, Result, Ok, Err, if◌then◌else◌}
 use Rattle.namespace_id.specs.declared.digests.Digest.{Digest}
-use Rattle.namespace_id.specs.Sizes.{most_depth}
+use Rattle.namespace_id.specs.Sizes.{most_nodes}
 use Rattle.proto_fields.specs.Canonical.{number_text}
 use Rattle.celestia_pb.specs.Reading.{then_read}
 use Rattle.celestia_pb.specs.Messages.{number_left}
@@ -17,10 +17,6 @@ leaf_count count = if count == 0 then 1 else count
 -- how many leaf hashes it has
 abbrev pub hash_count : ℕ → ℕ
 hash_count count = if count == 0 then 1 else 0
-
--- the most nodes
-abbrev pub most_nodes : ℕ
-most_nodes = 2 * most_depth
 
 -- ---- written
 

@@ -10,7 +10,8 @@ use Rattle.proto_fields.specs.Fields.{FieldParts, fields_of, all_bytes, last_num
 use Rattle.celestia_pb.specs.declared.sample.Sample.{Sample}
 use Rattle.celestia_pb.specs.Laws.{bytes_of_all}
 use Rattle.celestia_pb.specs.Inclusions.{inclusion_text}
-use Rattle.celestia_pb.specs.Samples.{IsCell, IsSample, share_message, axis_number, place_on, sample_text, sample_value}
+use Rattle.celestia_pb.specs.Samples.{IsSample, share_message, axis_number, place_on, sample_text, sample_value}
+use Rattle.namespace_id.specs.Cells.{IsCell}
 
 -- the message of a sample is read as the sample
 abbrev pub SampleIsRead : Type 0

@@ -1,6 +1,6 @@
 -- A sample as Celestia's message Sample: the share, as a message of its own, in field 1, its proof in field 2, and its axis in field 3.
 -- The cell isn't in it: it is that of the request.
-use Rattle.std.specs.Prelude.{ℕ, ◌==◌, ◌<◌, ◌≤◌, ◌^◌, List, ◌++◌, length, Option, Some, None, option_map, option_and_then, Result, Ok, Err, if◌then◌else◌}
+use Rattle.std.specs.Prelude.{ℕ, ◌==◌, ◌≤◌, List, ◌++◌, length, Option, Some, None, option_map, option_and_then, Result, Ok, Err, if◌then◌else◌}
 use Rattle.namespace_id.specs.declared.cells.Axis.{Axis}
 use Rattle.namespace_id.specs.declared.cells.Axis.TheVariants.{Row, Col}
 use Rattle.namespace_id.specs.declared.cells.Cell.{Cell}
@@ -15,11 +15,6 @@ use Rattle.celestia_pb.specs.declared.sample.Sample.{Sample}
 use Rattle.celestia_pb.specs.Reading.{then_read, or_left, with_offset}
 use Rattle.celestia_pb.specs.Messages.{optional_message}
 use Rattle.celestia_pb.specs.Inclusions.{inclusion_text, inclusion_left}
-
--- a cell has numbers of two bytes
-pub record IsCell (cell : Cell) : Type 0 where
-  pub row : cell.row < 2 ^ 16
-  pub col : cell.col < 2 ^ 16
 
 -- a sample has a share and up to so many digests
 pub record IsSample (sample : Sample) : Type 0 where

@@ -6,7 +6,8 @@ ghost use Rattle.namespace_id.specs.Cells.{is_width};
 ghost use Rattle.celestia_pb.specs.Reading.{ReadsMessage};
 ghost use Rattle.celestia_pb.specs.Digests.{entry_size};
 ghost use Rattle.celestia_pb.specs.Headers.{dah_left};
-ghost use Rattle.celestia_pb.specs.Extended.{from_field, none_of, lenient_part, submessage, hash_size, hash_front, data_hash_left, header_left, roots_left, once_at_most, both_read, besides, extended_left, extended_value, roots_by, extended_from};
+ghost use Rattle.celestia_pb.specs.Extended.{from_field, none_of, lenient_part, submessage, hash_front, data_hash_left, header_left, roots_left, once_at_most, both_read, besides, extended_left, extended_value, roots_by, extended_from};
+ghost use Rattle.namespace_id.specs.Sizes.{hash_size};
 ghost use Rattle.celestia_pb.specs.ExtendedLaws.{ExtendedIsRead, ExtendedIsCommon};
 
 use crate::dah::{dah_width, header_in};

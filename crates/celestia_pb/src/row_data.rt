@@ -2,11 +2,11 @@
 
 ghost use Rattle.std.specs.Prelude.{◌≡◌, ◌↔◌, ℕ, ◌+◌, ◌*◌, ◌≤◌, ◌^◌, ◌++◌, length, vec_len, vec_capacity, true, false, None, option_map, Ok, Err, IfOk, IfErr, IfSome, IsErrOf};
 ghost use Rattle.namespace_id.specs.Answers.{HasRoom};
-ghost use Rattle.namespace_id.specs.Sizes.{greatest_width};
+ghost use Rattle.namespace_id.specs.Sizes.{greatest_width, most_nodes};
 ghost use Rattle.celestia_pb.specs.Reading.{ReadsMessage};
 ghost use Rattle.celestia_pb.specs.Messages.{optional_message};
 ghost use Rattle.celestia_pb.specs.RowShares.{share_entry_size};
-ghost use Rattle.celestia_pb.specs.RowProofs.{most_nodes, row_proof_left};
+ghost use Rattle.celestia_pb.specs.RowProofs.{row_proof_left};
 ghost use Rattle.celestia_pb.specs.RowData.{found_has_message, row_text, found_message, row_left, row_value};
 ghost use Rattle.celestia_pb.specs.RowParts.{proof_parts, entry_by};
 ghost use Rattle.celestia_pb.specs.RowDataLaws.{RowIsRead, ReadIsRow, RowIsCommon, RowProofIsCommon};

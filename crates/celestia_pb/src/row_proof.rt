@@ -5,7 +5,8 @@ ghost use Rattle.namespace_id.specs.Answers.{HasRoom};
 ghost use Rattle.celestia_pb.specs.Reading.{ReadsMessage};
 ghost use Rattle.celestia_pb.specs.Digests.{digests_in, entry_size};
 ghost use Rattle.celestia_pb.specs.Messages.{number_left};
-ghost use Rattle.celestia_pb.specs.RowProofs.{leaf_count, hash_count, most_nodes, row_proof_text, is_short, has_all_parts, row_proof_left};
+ghost use Rattle.celestia_pb.specs.RowProofs.{leaf_count, hash_count, row_proof_text, is_short, has_all_parts, row_proof_left};
+ghost use Rattle.namespace_id.specs.Sizes.{most_nodes};
 ghost use Rattle.celestia_pb.specs.RowParts.{hashes_of, proof_parts};
 
 use crate::digests::{ENTRY_SIZE, count_digests, entry_digest, put_digests};

@@ -4,7 +4,7 @@ ghost use Rattle.std.specs.Prelude.{◌≡◌, ◌+◌, ◌*◌, ◌≤◌, ◌<
 ghost use Rattle.namespace_id.specs.Answers.{HasRoom};
 ghost use Rattle.namespace_id.specs.Sizes.{share_size};
 ghost use Rattle.celestia_pb.specs.ShareLists.{share_behind, shares_behind};
-ghost use Rattle.celestia_pb.specs.Ods.{share_bytes};
+ghost use Rattle.namespace_id.specs.Shares.{share_bytes};
 
 use namespace_id::{NoMemory, SHARE_SIZE, Share, append};
 use std::alloc::Global;

@@ -28,7 +28,8 @@ use Rattle.da_status.specs.declared.status.Status.{Status}
 use Rattle.da_status.specs.declared.status.Status.TheVariants.{Done}
 use Rattle.da_judging.specs.Check.{finding_of, line_of, IsOwnFrame}
 use Rattle.axis_roots.specs.Claims.{ClaimParts}
-use Rattle.da_judging.specs.Compact.{claim_file, claim_in, CompactsJudged, CompactsOwn}
+use Rattle.da_judging.specs.Compact.{claim_file, CompactsJudged, CompactsOwn}
+use Rattle.da_files.specs.Frames.{claim_in}
 use Rattle.da_judging.specs.Repair.{Repairs, RepairsOwn}
 use Rattle.da_judging.specs.Keys.{key_file_in}
 use Rattle.da_judging.specs.Light.{Lights, LightOf, light_key_file, JudgesOwn}

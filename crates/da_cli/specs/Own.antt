@@ -22,12 +22,12 @@ use Rattle.da_cli.specs.Values.{is_command}
 use Rattle.da_cli.specs.Words.{files_of_words}
 use Rattle.da_cli.specs.Limits.{limits_of}
 use Rattle.da_cli.specs.Gathered.{gathered, whole}
-use Rattle.da_files.specs.Frames.{header_in, square_in}
+use Rattle.da_files.specs.Frames.{header_in, square_in, claim_in}
 use Rattle.da_judging.specs.Check.{finding_of, line_of, IsOwnFrame}
 use Rattle.da_status.specs.declared.status.Status.{Status}
 use Rattle.da_status.specs.declared.status.Status.TheVariants.{Done}
 use Rattle.axis_roots.specs.Claims.{ClaimParts}
-use Rattle.da_judging.specs.Compact.{claim_file, claim_in, CompactOf, CompactsOwn}
+use Rattle.da_judging.specs.Compact.{claim_file, CompactOf, CompactsOwn}
 use Rattle.da_judging.specs.Repair.{RepairOf, RepairsOwn}
 use Rattle.da_judging.specs.Light.{LightOf, LightByOf, JudgesOwn}
 use Rattle.da_files.specs.Requests.{namespaces_in}
@@ -125,7 +125,7 @@ IsOwnNet files words = (contents : List (List ℕ)) (header : Roots) (square : S
 -- what is written is a commitment proof of the square's width and this range, whose commitment is that of the square's shares in the range, or it and the square name a collision
 abbrev pub ProvesOwn : SquareShares → ℕ → ℕ → List ℕ → Type 0
 ProvesOwn square start count w = (proof : CommitParts) × (spelling (Commit proof) ≡ Some w) × (proof.k ≡ square.k)
-    × (proof.start ≡ start) × (proof.count ≡ count) × (CommitsOwn proof square ⊎ places.NamesClash (CommitText proof) square)
+    × (proof.start ≡ start) × (proof.count ≡ count) × (CommitsOwn proof square ⊎ places.PlacesNameClash (CommitText proof) square)
 
 -- over the file of `prove` with a range: what is answered with `Done` is such a proof, of the square in SQUARE
 abbrev pub IsOwnProve : Files → List (List ℕ) → Type 0

@@ -6,7 +6,7 @@ use Rattle.da_commands.specs.declared.command.Command.TheVariants.{Check, Build,
 use Rattle.da_wire.specs.Spelling.{sample_kind, request_kind}
 use Rattle.da_status.specs.Outcome.{Relation}
 use Rattle.da_status.specs.Judging.{Judged}
-use Rattle.da_files.specs.Frames.{header_in, square_in, block_or_list_in}
+use Rattle.da_files.specs.Frames.{header_in, square_in, block_or_list_in, claim_in}
 use Rattle.da_files.specs.Forms.{single_judged, under_judged, messages_judged, requests_judged}
 use Rattle.da_judging.specs.Check.{CheckOf}
 use Rattle.da_serving.specs.Build.{BuildOf}
@@ -14,7 +14,7 @@ use Rattle.da_serving.specs.Header.{HeaderOf}
 use Rattle.da_serving.specs.Sample.{SampleOf}
 use Rattle.da_serving.specs.Namespace.{NamespaceOf}
 use Rattle.da_judging.specs.Verify.{answer_in, VerifyOf}
-use Rattle.da_judging.specs.Compact.{claim_in, CompactOf}
+use Rattle.da_judging.specs.Compact.{CompactOf}
 use Rattle.da_judging.specs.Repair.{RepairOf}
 use Rattle.da_judging.specs.Light.{LightOf, light_by_judged, LightByOf}
 use Rattle.da_commands.specs.Net.{net_judged, NetOf}

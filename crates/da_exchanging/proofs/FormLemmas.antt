@@ -11,7 +11,7 @@ use Rattle.celestia_pb.specs.Befp.{befp_value}
 use Rattle.da_status.specs.declared.status.Status.{Status}
 use Rattle.da_status.specs.Statuses.{status_kind}
 use Rattle.da_status.proofs.EndLemmas.{IsAnswer}
-use Rattle.da_files.specs.Frames.{header_in, message_in, square_in}
+use Rattle.da_files.specs.Frames.{header_in, message_in, square_in, claim_in}
 use Rattle.da_exchanging.specs.declared.forms.ImportForm.{ImportForm}
 use Rattle.da_exchanging.specs.declared.forms.ImportForm.TheVariants as from
 use Rattle.da_exchanging.specs.declared.forms.ExportForm.{ExportForm}
@@ -20,7 +20,7 @@ use Rattle.da_exchanging.specs.Sample.{sample_frame, message_text}
 use Rattle.da_exchanging.specs.Ids.{asked_cell_in, asked_name_in, row_request}
 use Rattle.da_exchanging.specs.Answers.{ns_answer_in}
 use Rattle.da_exchanging.specs.RowData.{row_frame, answer_message}
-use Rattle.da_exchanging.specs.Befp.{claim_in, claim_message}
+use Rattle.da_exchanging.specs.Befp.{claim_message}
 use Rattle.da_exchanging.specs.Forms.{ImportOf, ExportOf}
 use Rattle.da_exchanging.proofs.MadeLemmas.{frames_answer, texts_answer, texts_if_answer}
 use Rattle.da_exchanging.proofs.ShareProofLemmas.{share_proof_answers}

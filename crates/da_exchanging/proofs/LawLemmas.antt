@@ -15,7 +15,8 @@ use Rattle.celestia_pb.specs.declared.sample.Sample.{Sample}
 use Rattle.celestia_pb.proofs.Steps.{same_ok}
 use Rattle.celestia_pb.specs.Headers.{dah_text, dah_value}
 use Rattle.celestia_pb.specs.Laws.{DahIsRead, ReadIsDah}
-use Rattle.celestia_pb.specs.Samples.{IsCell, IsSample, sample_value}
+use Rattle.celestia_pb.specs.Samples.{IsSample, sample_value}
+use Rattle.namespace_id.specs.Cells.{IsCell}
 use Rattle.celestia_pb.specs.SampleLaws.{SampleIsRead, ReadIsSample}
 use Rattle.celestia_pb.specs.Ids.{sample_id_text, namespace_id_text, sample_id_value, namespace_id_value, SampleIdIsRead, ReadIsSampleId, NamespaceIdIsRead, ReadIsNamespaceId}
 use Rattle.celestia_pb.specs.Ods.{ods_text, ods_value, OdsIsRead, ReadIsOds}
@@ -243,7 +244,7 @@ befp_exported again law = λ k hash height claim text long short has made.
     (λ x e.
     subst (λ (y : ClaimParts). Goes (befp_value hash height) frames.Fraud (λ z. z) claim_of (fraud_kind ∷ []) Answer bytes y)
     (same_ok claim x (sym (law 1 k hash height claim (omega arith) long short has) ∙ e))
-    (has.is, refl, refl, has_written (claims.has_message k claim) bytes bytes has.has refl))
+    (has.is, refl, refl, has_written (claims.claim_has_message k claim) bytes bytes has.has refl))
     made
 
 pub befp_imported : OnlyIsSpelled → befp.BefpIsRead → BefpIsImportedBack
@@ -251,8 +252,8 @@ befp_imported only law = λ k hash height bytes text long short fits told.
     imported_back (befp_value hash height) frames.Fraud (λ x. x) claim_of (fraud_kind ∷ []) (λ x. WritesIf (claim_message k hash height x)) bytes text
     (λ y e answer.
     let is = file_spelled claim_of frames.Fraud claim_made (λ x. refl) only (fraud_kind ∷ []) text y fits e in
-    let written = written_message (claims.has_message k y) bytes (befp_text 1 k hash height y) answer in
-    let has : befp.HasMessage k y = record { is = is.0; has = written.0 } in
+    let written = written_message (claims.claim_has_message k y) bytes (befp_text 1 k hash height y) answer in
+    let has : befp.ClaimHasMessage k y = record { is = is.0; has = written.0 } in
     (y, ap (befp_value hash height) written.1 ∙ law 1 k hash height y (omega arith) long short has, is.1))
     told
 

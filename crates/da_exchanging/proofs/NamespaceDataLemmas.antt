@@ -172,18 +172,18 @@ stream_is answer text has h = subst (λ (b : Bool). StreamBy b answer text Done)
 -- ---- answers
 
 -- the stream of entries, or that they have none, is an answer
-stream_answers : (b : Bool) (answer : List NsEntry) (w : List ℕ) (status : Status) → StreamBy b answer w status → IsAnswer (statuses.kind_of status)
+stream_answers : (b : Bool) (answer : List NsEntry) (w : List ℕ) (status : Status) → StreamBy b answer w status → IsAnswer (statuses.status_kind status)
 stream_answers true answer w status h = status_answers status Done h.1 tt
 stream_answers false answer w status h = status_answers status (BadRequest Form) h.1 tt
 
 pub import_answers : (name : names.Namespace) (files : List (List ℕ)) (w : List ℕ) (status : Status) → ImportNamespaceDataOf name files w status
-    → IsAnswer (statuses.kind_of status)
+    → IsAnswer (statuses.status_kind status)
 import_answers name files w status h =
     over_each (λ header. Over (data_under name header (file_of files 0)) (λ answer. Writes (Names name answer))) (header_in (file_of files 1)) w status
-    (IsAnswer (statuses.kind_of status))
-    (λ header under. over_each (λ answer. Writes (Names name answer)) (data_under name header (file_of files 0)) w status (IsAnswer (statuses.kind_of status))
+    (IsAnswer (statuses.status_kind status))
+    (λ header under. over_each (λ answer. Writes (Names name answer)) (data_under name header (file_of files 0)) w status (IsAnswer (statuses.status_kind status))
     (λ answer is. status_answers status Done is.1 tt) under) h
 
-pub export_answers : (files : List (List ℕ)) (w : List ℕ) (status : Status) → ExportNamespaceDataOf files w status → IsAnswer (statuses.kind_of status)
+pub export_answers : (files : List (List ℕ)) (w : List ℕ) (status : Status) → ExportNamespaceDataOf files w status → IsAnswer (statuses.status_kind status)
 export_answers files w status h =
-    over_each StreamOf (entries_in (file_of files 0)) w status (IsAnswer (statuses.kind_of status)) (λ answer is. stream_answers (has_stream answer) answer w status is) h
+    over_each StreamOf (entries_in (file_of files 0)) w status (IsAnswer (statuses.status_kind status)) (λ answer is. stream_answers (has_stream answer) answer w status is) h

@@ -96,22 +96,22 @@ not_failed false other = absurd (other refl)
 
 -- ---- answers
 
-row_answers : (b : Bool) (row : ℕ) (half : HalfParts) (w : List ℕ) (final : Status) → RowBy b row half w final → IsAnswer (statuses.kind_of final)
+row_answers : (b : Bool) (row : ℕ) (half : HalfParts) (w : List ℕ) (final : Status) → RowBy b row half w final → IsAnswer (statuses.status_kind final)
 row_answers false row half w final h = status_answers final (BadRequest Form) h.1 tt
 row_answers true row half w final (inl made) = status_answers final Done made.2.1 tt
 row_answers true row half w final (inr falls) = status_answers final (BadRequest NoHeader) falls.1.1 tt
 
 pub import_answers : (row : ℕ) (files : List (List ℕ)) (w : List ℕ) (final : Status) → ImportRowOf row files w final
-    → IsAnswer (statuses.kind_of final)
+    → IsAnswer (statuses.status_kind final)
 import_answers row files w final h =
-    over_each (RowOf row) (halves.half_row_value (file_of files 0)) w final (IsAnswer (statuses.kind_of final))
+    over_each (RowOf row) (halves.half_row_value (file_of files 0)) w final (IsAnswer (statuses.status_kind final))
     (λ half is. row_answers (nat_lt row (2 * width_of half)) row half w final is) h
 
-half_answers : (half : Option HalfParts) (w : List ℕ) (final : Status) → HalfBy half w final → IsAnswer (statuses.kind_of final)
+half_answers : (half : Option HalfParts) (w : List ℕ) (final : Status) → HalfBy half w final → IsAnswer (statuses.status_kind final)
 half_answers None w final h = status_answers final (BadRequest Form) h.1 tt
 half_answers (Some half) w final h = status_answers final Done h.1 tt
 
-pub export_answers : (files : List (List ℕ)) (w : List ℕ) (final : Status) → ExportRowOf files w final → IsAnswer (statuses.kind_of final)
+pub export_answers : (files : List (List ℕ)) (w : List ℕ) (final : Status) → ExportRowOf files w final → IsAnswer (statuses.status_kind final)
 export_answers files w final h = half_answers (half_of (file_samples (file_of files 0))) w final h
 
 -- ---- what is answered to samples

@@ -22,11 +22,11 @@ rooted_there (Rooted proof) e = refl
 rooted_there frame e = absurd cc
 
 -- both are answers
-gives_answer : (b : Bool) (proof : RootedParts) (w : List ℕ) (status : Status) → GivesMessage b proof w status → IsAnswer (statuses.kind_of status)
+gives_answer : (b : Bool) (proof : RootedParts) (w : List ℕ) (status : Status) → GivesMessage b proof w status → IsAnswer (statuses.status_kind status)
 gives_answer true proof w status h = status_answers status Done h.1 tt
 gives_answer false proof w status h = status_answers status (BadRequest Form) h.1 tt
 
-pub share_proof_answers : (files : List (List ℕ)) (w : List ℕ) (status : Status) → ExportShareProofOf files w status → IsAnswer (statuses.kind_of status)
+pub share_proof_answers : (files : List (List ℕ)) (w : List ℕ) (status : Status) → ExportShareProofOf files w status → IsAnswer (statuses.status_kind status)
 share_proof_answers files w status h =
-    over_each ProofAnswer (rooted_in (file_of files 0)) w status (IsAnswer (statuses.kind_of status))
+    over_each ProofAnswer (rooted_in (file_of files 0)) w status (IsAnswer (statuses.status_kind status))
     (λ proof is. gives_answer (has_share_proof proof) proof w status is) h

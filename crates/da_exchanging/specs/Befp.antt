@@ -1,19 +1,12 @@
 -- befp: a fraud claim without a set as the message BadEncoding, which has the hash and the height of a header besides, and its frame B.
-use Rattle.std.specs.Prelude.{ℕ, List, [], ◌∷◌, Some, None, Result, if◌then◌else◌}
+use Rattle.std.specs.Prelude.{ℕ, List, Some, None, if◌then◌else◌}
 use Rattle.std.specs.declared.option.Option.{Option}
 use Rattle.axis_roots.specs.Claims.{ClaimParts}
 use Rattle.celestia_pb.specs.Befp.{claim_has_message, befp_text, befp_value}
 use Rattle.da_wire.specs.declared.frames.Frame.TheVariants.{Fraud}
-use Rattle.da_wire.specs.Spelling.{fraud_kind}
-use Rattle.da_wire.specs.Reading.{only_of}
-use Rattle.da_wire.specs.Single.{claim_of}
 use Rattle.da_status.specs.Outcome.{Relation}
-use Rattle.da_files.specs.Frames.{single_file}
+use Rattle.da_files.specs.Frames.{claim_in}
 use Rattle.da_exchanging.specs.Made.{Frames, TextsIf}
-
--- the claim that a file is, or where it stops being a frame of one
-abbrev pub claim_in : List ℕ → Result ClaimParts ℕ
-claim_in bytes = single_file claim_of (only_of bytes (fraud_kind ∷ []))
 
 -- the message of a claim against an axis of a square of width k, where it has one; its proofs pass over the parity namespace
 abbrev pub claim_message : ℕ → List ℕ → ℕ → ClaimParts → Option (List ℕ)

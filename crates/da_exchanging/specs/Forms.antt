@@ -11,7 +11,7 @@ use Rattle.celestia_pb.specs.RowData.{row_value}
 use Rattle.celestia_pb.specs.Befp.{befp_value}
 use Rattle.celestia_pb.specs.Ods.{ods_value}
 use Rattle.da_status.specs.Outcome.{Relation}
-use Rattle.da_files.specs.Frames.{header_in, message_in, square_in}
+use Rattle.da_files.specs.Frames.{header_in, message_in, square_in, claim_in}
 use Rattle.da_files.specs.Forms.{single_judged}
 use Rattle.da_exchanging.specs.declared.forms.ImportForm.{ImportForm}
 use Rattle.da_exchanging.specs.declared.forms.ImportForm.TheVariants as from
@@ -22,7 +22,7 @@ use Rattle.da_exchanging.specs.Header.{ImportHeaderOf}
 use Rattle.da_exchanging.specs.Sample.{ImportSampleOf, ExportSampleOf}
 use Rattle.da_exchanging.specs.Answers.{ns_answer_in}
 use Rattle.da_exchanging.specs.RowData.{ImportRowDataOf, ExportRowDataOf}
-use Rattle.da_exchanging.specs.Befp.{claim_in, ImportBefpOf, ExportBefpOf}
+use Rattle.da_exchanging.specs.Befp.{ImportBefpOf, ExportBefpOf}
 use Rattle.da_exchanging.specs.NamespaceData.{namespace_data_judged, ImportNamespaceDataOf, entries_in, ExportNamespaceDataOf}
 use Rattle.da_exchanging.specs.Ods.{ImportOdsOf, ExportOdsOf}
 use Rattle.da_exchanging.specs.ShareProof.{rooted_in, ImportShareProofOf, ExportShareProofOf}

@@ -3,17 +3,16 @@
 ghost use Rattle.celestia_pb.specs.Befp.{befp_value};
 ghost use Rattle.da_status.specs.Judging.{Judged};
 ghost use Rattle.da_files.specs.Contents.{contents_of};
-ghost use Rattle.da_files.specs.Frames.{ReadsSingle};
+ghost use Rattle.da_files.specs.Frames.{claim_in};
 ghost use Rattle.da_files.specs.Forms.{single_judged};
 ghost use Rattle.da_exchanging.specs.Made.{WritesIf, IsMadeOutput};
-ghost use Rattle.da_exchanging.specs.Befp.{claim_in, claim_message, ImportBefpOf, ExportBefpOf};
+ghost use Rattle.da_exchanging.specs.Befp.{claim_message, ImportBefpOf, ExportBefpOf};
 
 use crate::made::{FILE, frame_refusal, frame_text, message_refusal};
 use axis_roots::FraudClaim;
 use celestia_pb::{befp_laws, befp_size, put_befp, read_befp};
-use da_files::{Unread, claim_frame, file, reason};
+use da_files::{claim_frame, claim_in, file};
 use da_status::{Asked, Status};
-use da_wire::read_claim;
 use namespace_id::bytes_law;
 use std::alloc::Global;
 
@@ -33,16 +32,6 @@ pub(crate) fn import(
     match read_befp(alloc, hash, height, bytes) {
         Ok(claim) => frame_text(alloc, claim_frame(claim)),
         Err(why) => Err(message_refusal(why)),
-    }
-}
-
-/// The claim that a file is.
-fn claim_in(alloc: Global, bytes: &[u8]) -> Result<FraudClaim, Unread>
-    ensures { ReadsSingle result (claim_in bytes.now) }
-{
-    match read_claim(alloc, bytes) {
-        Ok(claim) => Ok(claim),
-        Err(error) => Err(reason(error)),
     }
 }
 

@@ -1,7 +1,7 @@
 -- Files of one frame: what a reader of one kind gives, and memory that runs out in place of a value alone.
 use Rattle.std.proofs.Common.{◌≡◌, ◌∙◌, ℕ, List, None, Some, Result, Ok, Err, IsOk, IsSome, refl, sym, ap, subst, inl, inr}
 use Rattle.std.specs.declared.option.Option.{Option}
-use Rattle.std.specs.Option.{option_map_or, ok_or}
+use Rattle.std.specs.Option.{option_map_or}
 use Rattle.da_wire.specs.declared.frames.Frame.{Frame}
 use Rattle.da_wire.specs.declared.frames.FrameError.{FrameError}
 use Rattle.da_wire.specs.declared.frames.FrameError.TheVariants.{Truncated, BadKind, TooLong, BadPayload, Trailing, NoMemory}
@@ -78,14 +78,3 @@ module _ {A : Type 0} where
   values_unread value bytes kinds error some (inl full) =
       is_unread value bytes kinds error (inl (full.0, value_ok value (only_of bytes kinds) some full.1))
   values_unread value bytes kinds error some (inr e) = is_unread value bytes kinds error (inr (ap (read_single value) e))
-
-  -- a value is what the file is, and without one the file is none from its first byte on
-  value_read : (o : Option A) → ReadsSingle (ok_or o (reasons.BadForm 0)) (option_map_or Ok o (Err 0))
-  value_read None = refl
-  value_read (Some value) = refl
-
-  -- what a frame that was read has is what the file is
-  pub values_read : (value : Frame → Option A) (read : Result Frame FrameError) (frame : Frame) → read ≡ Ok frame
-      → ReadsSingle (ok_or (value frame) (reasons.BadForm 0)) (single_file value read)
-  values_read value read frame e =
-      subst (λ (r : Result Frame FrameError). ReadsSingle (ok_or (value frame) (reasons.BadForm 0)) (single_file value r)) (sym e) (value_read (value frame))

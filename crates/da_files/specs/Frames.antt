@@ -7,12 +7,13 @@ use Rattle.square_layout.specs.Blocks.{SquareShares}
 use Rattle.da_wire.specs.declared.frames.Frame.{Frame}
 use Rattle.da_wire.specs.declared.frames.Frame.TheVariants as frames
 use Rattle.axis_roots.specs.declared.message.messages.Message as sent
+use Rattle.axis_roots.specs.Claims.{ClaimParts}
 use Rattle.da_wire.specs.declared.frames.FrameError.{FrameError}
 use Rattle.da_wire.specs.declared.frames.FrameError.TheVariants.{Truncated, BadKind, TooLong, BadPayload, Trailing, NoMemory}
-use Rattle.da_wire.specs.Spelling.{spelling, header_kind, square_kind, message_kind, block_kind, transactions_kind}
+use Rattle.da_wire.specs.Spelling.{spelling, header_kind, square_kind, message_kind, fraud_kind, block_kind, transactions_kind}
 use Rattle.da_wire.specs.Reading.{only_of}
 use Rattle.da_wire.specs.Streams.{offset_of}
-use Rattle.da_wire.specs.Single.{header_of, square_of, message_of}
+use Rattle.da_wire.specs.Single.{header_of, square_of, message_of, claim_of}
 use Rattle.da_files.specs.declared.frames.BlockOrList.{BlockOrList}
 use Rattle.da_files.specs.declared.frames.BlockOrList.TheVariants.{Block, Transactions}
 use Rattle.da_files.specs.declared.frames.Unread.{Unread}
@@ -37,6 +38,10 @@ square_in bytes = single_file square_of (only_of bytes (square_kind ∷ []))
 -- the sample that a file is, or where it stops being a frame of one
 abbrev pub message_in : List ℕ → Result sent.Message ℕ
 message_in bytes = single_file message_of (only_of bytes (message_kind ∷ []))
+
+-- the claim that a file is, or where it stops being a frame of one
+abbrev pub claim_in : List ℕ → Result ClaimParts ℕ
+claim_in bytes = single_file claim_of (only_of bytes (fraud_kind ∷ []))
 
 -- the kinds of frames of what is laid out as a square
 abbrev pub block_kinds : List ℕ

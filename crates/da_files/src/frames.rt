@@ -6,15 +6,15 @@ ghost use Rattle.frame_payloads.specs.kinds.Clash.{has_empty};
 ghost use Rattle.da_wire.specs.Spelling.{spelling};
 ghost use Rattle.da_wire.specs.declared.frames.Frame.TheVariants as FrameOf;
 ghost use Rattle.da_status.specs.Statuses.{status_kind, output};
-ghost use Rattle.da_files.specs.Frames.{header_in, square_in, message_in, block_or_list_of, block_or_list_in, unread_of, ReadsSingle, Writes, WritesText, WritesWith};
+ghost use Rattle.da_files.specs.Frames.{header_in, square_in, message_in, claim_in, block_or_list_of, block_or_list_in, unread_of, ReadsSingle, Writes, WritesText, WritesWith};
 ghost use Rattle.da_status.specs.Outcome.{EndsAtOnce};
 
 use axis_roots::{FraudClaim, Message, claim_law};
 use da_io::{Sink, write_all};
 use da_status::Status;
 use da_wire::{
-    Frame, FrameError, SpellError, read_header, read_message, read_only, read_square, value_laws,
-    wire_laws, write_frame,
+    Frame, FrameError, SpellError, read_claim, read_header, read_message, read_only, read_square,
+    value_laws, wire_laws, write_frame,
 };
 use data_header::Header;
 use frame_payloads::UnitList;
@@ -87,6 +87,16 @@ pub fn message_in(bytes: &[u8]) -> Result<Message, Unread>
 {
     match read_message(bytes) {
         Ok(message) => Ok(message),
+        Err(error) => Err(reason(error)),
+    }
+}
+
+/// The fraud claim that a file is.
+pub fn claim_in(alloc: Global, bytes: &[u8]) -> Result<FraudClaim, Unread>
+    ensures { ReadsSingle result (claim_in bytes.now) }
+{
+    match read_claim(alloc, bytes) {
+        Ok(claim) => Ok(claim),
         Err(error) => Err(reason(error)),
     }
 }

@@ -7,5 +7,4 @@ pub mod FeedStatusLemmas
 pub mod KeptLemmas
 pub mod WayLemmas
 pub mod FedByLemmas
-pub mod SquareShareLemmas
 pub mod ListedLemmas

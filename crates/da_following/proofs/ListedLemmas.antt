@@ -16,7 +16,7 @@ use Rattle.square_serve.specs.Shares.{is_named}
 use Rattle.square_serve.specs.Own.{ShowsAll}
 use Rattle.blob_feed.specs.Feeds.{Height, heights_of, Item, Read, IsFedIn, IsFeedOf, shares_in, shares_shown}
 use Rattle.da_following.specs.Follow.{RunFeed}
-use Rattle.da_following.proofs.SquareShareLemmas.{shares_in_square}
+use Rattle.blob_feed.proofs.RowLemmas.{shares_in_square}
 
 -- shares that are blobs are read as these
 blobs_read : (shares : List Share) (blobs : List NamedBytes) → AreBlobs shares blobs → blobs_joined shares ≡ Ok blobs

@@ -24,10 +24,6 @@ one_ahead k digest digests frame frames shown ahead = (shown, ahead)
 abbrev pub Leads : ℕ → List Digest → List Raw → List Raw → Type 0
 Leads k before rest all = (more : List Digest) → AreAhead k more rest → AreAhead k (before ++ more) all
 
--- before the first frame there are none
-pub leads_first : (k : ℕ) (before : List Digest) (all : List Raw) → before ≡ [] → Leads k before all all
-leads_first k before all none more ahead = subst (λ (l : List Digest). AreAhead k (l ++ more) all) (sym none) ahead
-
 -- and one more leaf that waits gives one more
 pub leads_on : (k : ℕ) (old new : QueuedLeaves) (digest : Digest) (frame : Raw) (rest after all : List Raw) → Leads k (queued old) rest all → rest ≡ frame ∷ after
     → new.ready ≡ old.ready → new.waiting ≡ old.waiting ++ digest ∷ [] → IsLeafDigestOf k digest frame → Leads k (queued new) after all

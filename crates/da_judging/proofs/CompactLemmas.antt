@@ -18,9 +18,9 @@ use Rattle.frame_payloads.proofs.AcceptedClaims.{accepted_written}
 use Rattle.da_status.specs.declared.status.Status.{Status}
 use Rattle.da_status.specs.Statuses.{status_kind, output}
 use Rattle.da_status.specs.Judging.{first_bad, Judged}
-use Rattle.da_files.specs.Frames.{header_in, error_of}
+use Rattle.da_files.specs.Frames.{header_in, error_of, claim_in}
 use Rattle.da_files.specs.Forms.{single_judged, under_judged, Over}
-use Rattle.da_judging.specs.Compact.{claim_file, claim_in, made_status, CompactsBy, CompactsJudged, CompactsOwn, CompactOf}
+use Rattle.da_judging.specs.Compact.{claim_file, made_status, CompactsBy, CompactsJudged, CompactsOwn, CompactOf}
 use Rattle.da_files.specs.Contents.{header_file}
 use Rattle.da_files.proofs.FormLemmas.{second_bad, over_is, judged_over, over_each}
 use Rattle.da_judging.proofs.ClashLemmas.{found_full}

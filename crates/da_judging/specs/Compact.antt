@@ -1,5 +1,5 @@
 -- compact HEADER CLAIM: an accepted fraud claim with one proof of all its cells along the accused axis.
-use Rattle.std.specs.Prelude.{◌≢◌, ℕ, List, [], ◌∷◌, Some, None, Result}
+use Rattle.std.specs.Prelude.{◌≢◌, ℕ, List, Some, None}
 use Rattle.std.specs.declared.option.Option.{Option}
 use Rattle.data_header.specs.Headers.{Roots}
 use Rattle.square_layout.specs.Blocks.{SquareShares}
@@ -11,14 +11,11 @@ use Rattle.befp_verify.specs.Refusals.{HasFraudCause}
 use Rattle.befp_verify.specs.Compacting.{IsCompacted}
 use Rattle.da_wire.specs.declared.frames.Frame.{Frame}
 use Rattle.da_wire.specs.declared.frames.Frame.TheVariants as frames
-use Rattle.da_wire.specs.Spelling.{fraud_kind}
-use Rattle.da_wire.specs.Reading.{only_of}
-use Rattle.da_wire.specs.Single.{claim_of}
 use Rattle.da_status.specs.declared.status.Status.{Status}
 use Rattle.da_status.specs.declared.status.Status.TheVariants.{Done, Clash, Refused}
 use Rattle.da_status.specs.Outcome.{Relation}
 use Rattle.da_files.specs.Contents.{file_of, header_file}
-use Rattle.da_files.specs.Frames.{header_in, single_file, WritesWith, WritesText}
+use Rattle.da_files.specs.Frames.{header_in, claim_in, WritesWith, WritesText}
 use Rattle.da_files.specs.Forms.{Over}
 use Rattle.da_judging.specs.Verify.{fraud_number, verdict_line}
 
@@ -27,10 +24,6 @@ use Rattle.da_judging.specs.Verify.{fraud_number, verdict_line}
 -- CLAIM, the second file of compact
 abbrev pub claim_file : List (List ℕ) → List ℕ
 claim_file files = file_of files 1
-
--- the claim that a file is, or where it stops being a frame of one
-abbrev pub claim_in : List ℕ → Result ClaimParts ℕ
-claim_in bytes = single_file claim_of (only_of bytes (fraud_kind ∷ []))
 
 -- ---- answers
 

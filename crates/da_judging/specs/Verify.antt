@@ -90,8 +90,8 @@ abbrev pub IsOwnReply : Answer → SquareShares → Type 0
 IsOwnReply (Message m) square = ShowsOwn m square ⊎ NamesClash m square
 IsOwnReply (Names name answer) square = ShowsAll name square answer ⊎ AnswerNames name square answer
 IsOwnReply (Fraud claim) square = ClaimNames claim square
-IsOwnReply (Commit proof) square = CommitsOwn proof square ⊎ places.NamesClash (CommitText proof) square
-IsOwnReply (Rooted proof) square = RootedOwn proof square ⊎ places.NamesClash (RootedText proof) square
+IsOwnReply (Commit proof) square = CommitsOwn proof square ⊎ places.PlacesNameClash (CommitText proof) square
+IsOwnReply (Rooted proof) square = RootedOwn proof square ⊎ places.PlacesNameClash (RootedText proof) square
 
 -- the line for an answer, by the number of its refusal
 abbrev pub verdict_line : Option ℕ → List ℕ

@@ -58,7 +58,7 @@ ShowsAsked (asked.Sample cell axis) (Names name answer) square = ⊥
 ShowsAsked (asked.Sample cell axis) (Fraud claim) square = ⊥
 ShowsAsked (asked.Sample cell axis) (Commit proof) square = ⊥
 ShowsAsked (asked.Sample cell axis) (Rooted proof) square =
-    IsShareAt proof.message.share cell square ⊎ places.NamesClash (RootedText proof) square
+    IsShareAt proof.message.share cell square ⊎ places.PlacesNameClash (RootedText proof) square
 ShowsAsked (asked.Names name) (Message m) square = ⊥
 ShowsAsked (asked.Names name) (Names other answer) square = ShowsAll name square answer ⊎ AnswerNames name square answer
 ShowsAsked (asked.Names name) (Fraud claim) square = ⊥

@@ -5,8 +5,8 @@ ghost use Rattle.axis_roots.specs.Claims.{ClaimParts, Accepts};
 ghost use Rattle.befp_verify.specs.Compacting.{IsCompacted};
 ghost use Rattle.da_wire.specs.Spelling.{spelling};
 ghost use Rattle.da_files.specs.Contents.{contents_of};
-ghost use Rattle.da_files.specs.Frames.{ReadsSingle, WritesWith};
-ghost use Rattle.da_judging.specs.Compact.{claim_in, made_frame, made_status, Compacts, CompactsJudged, CompactOf};
+ghost use Rattle.da_files.specs.Frames.{WritesWith, claim_in};
+ghost use Rattle.da_judging.specs.Compact.{made_frame, made_status, Compacts, CompactsJudged, CompactOf};
 ghost use Rattle.da_files.specs.Forms.{under_judged};
 ghost use Rattle.da_status.specs.Judging.{Judged};
 ghost use Rattle.da_status.specs.Statuses.{status_kind, output};
@@ -15,25 +15,15 @@ ghost use Rattle.da_status.specs.Outcome.{EndsAtOnce};
 use crate::verify::{fraud_number, verdict_line};
 use axis_roots::FraudClaim;
 use befp_verify::{Compacted, Upheld, VerifyRoom, verify};
-use da_files::{Unread, claim_frame, clash_frame, file, give_with, one_header, put, reason};
+use da_files::{Unread, claim_frame, claim_in, clash_frame, file, give_with, one_header, put};
 use da_io::Sink;
 use da_status::Status;
-use da_wire::{Frame, read_claim};
+use da_wire::Frame;
 use data_header::Header;
 use std::alloc::Global;
 
 /// The place of the last file among the words that name files.
 const CLAIM: u32 = 1;
-
-/// The claim that a file is.
-fn claim_in(alloc: Global, bytes: &[u8]) -> Result<FraudClaim, Unread>
-    ensures { ReadsSingle result (claim_in bytes.now) }
-{
-    match read_claim(alloc, bytes) {
-        Ok(claim) => Ok(claim),
-        Err(error) => Err(reason(error)),
-    }
-}
 
 /// The status that goes with what a claim was made into.
 fn made_status(made: &Compacted) -> Status

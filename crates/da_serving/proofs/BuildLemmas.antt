@@ -1,5 +1,5 @@
 -- What the command build answers.
-use Rattle.std.proofs.Common.{◌≡◌, ◌∙◌, ℕ, List, Some, None, Result, ◌⊎◌, inl, inr, refl, sym, ap, subst}
+use Rattle.std.proofs.Common.{◌≡◌, ◌∙◌, ℕ, List, Some, None, refl, sym, ap, subst}
 use Rattle.std.specs.Prelude.{MatchOption}
 use Rattle.std.specs.declared.option.Option.{Option}
 use Rattle.std.specs.Option.{option_or}
@@ -7,12 +7,11 @@ use Rattle.square_layout.specs.Blocks.{BlockParts, SquareShares}
 use Rattle.square_layout.specs.Layout.{block_square}
 use Rattle.square_layout.specs.Refusals.{layout_refusal}
 use Rattle.tx_list.specs.declared.refusals.ListError.{ListError}
-use Rattle.tx_list.specs.declared.refusals.ListError.TheVariants.{NoMemory}
 use Rattle.tx_list.specs.Payments.{ListParts}
 use Rattle.tx_list.specs.Reads.{list_of}
 use Rattle.tx_list.specs.Lists.{square_of_list}
 use Rattle.tx_list.specs.ReadRefusals.{read_refusal}
-use Rattle.tx_list.specs.Refusals.{list_size_refusal, AnswersList}
+use Rattle.tx_list.specs.Refusals.{list_size_refusal}
 use Rattle.da_wire.specs.declared.frames.Frame.{Frame}
 use Rattle.da_wire.specs.declared.frames.Frame.TheVariants.{Square}
 use Rattle.da_wire.specs.Spelling.{spelling}
@@ -76,29 +75,10 @@ both_fine transactions fine = (
   later_none (read_refusal transactions) (list_size_refusal (list_of transactions)) fine,
 )
 
--- a list that isn't read is refused for that, or for want of memory
-pub read_refused : (transactions : List (List ℕ)) (e : ListError)
-    → (read_refusal transactions ≡ Some e) ⊎ ((read_refusal transactions ≡ None) × (e ≡ NoMemory))
-    → (e ≡ NoMemory) ⊎ (list_refusal transactions ≡ Some e)
-read_refused transactions e (inl is) = inr (ap (λ (o : Option ListError). option_or o (list_size_refusal (list_of transactions))) is)
-read_refused transactions e (inr full) = inl full.1
-
--- one that is read is refused for its size, or not at all
-pub read_whole : (transactions : List (List ℕ)) (list : ListParts) → read_refusal transactions ≡ None → list ≡ list_of transactions
-    → list_refusal transactions ≡ list_size_refusal list
-read_whole transactions list fine is =
-    ap (λ (o : Option ListError). option_or o (list_size_refusal (list_of transactions))) fine ∙ ap list_size_refusal (sym is)
-
--- so one without a refusal isn't refused for its size
+-- one that is read without a refusal isn't refused for its size
 pub whole_fits : (transactions : List (List ℕ)) (list : ListParts) → list_refusal transactions ≡ None → list ≡ list_of transactions
     → list_size_refusal list ≡ None
 whole_fits transactions list fine is = ap list_size_refusal is ∙ later_none (read_refusal transactions) (list_size_refusal (list_of transactions)) fine
-
--- what a call answers to one that was read is what it answers to the transactions
-pub read_answers : {X : Type 0} (transactions : List (List ℕ)) (list : ListParts) (result : Result X ListError) → read_refusal transactions ≡ None
-    → list ≡ list_of transactions → AnswersList result (list_size_refusal list) → AnswersList result (list_refusal transactions)
-read_answers transactions list result fine is h =
-    subst (λ (o : Option ListError). AnswersList result o) (sym (read_whole transactions list fine is)) h
 
 -- the frame of the square of a list without a refusal
 pub builds_list : (transactions : List (List ℕ)) (square : SquareShares) (frame : Frame) → list_refusal transactions ≡ None

@@ -188,7 +188,7 @@ size_fits count true why is e = absurd cc
 size_fits count false why is e = ltb-false max_shares count is
 
 -- a list that isn't refused for its size has blobs that may take no more shares than the greatest square
-list_fits : (list : ListParts) → sizes.size_refusal list ≡ None → blobs_bound (blobs_of list.payments) ≤ max_shares
+list_fits : (list : ListParts) → sizes.list_size_refusal list ≡ None → blobs_bound (blobs_of list.payments) ≤ max_shares
 list_fits list fine =
     omega (arith, size_fits (list_bound list) (nat_lt max_shares (list_bound list)) (TooLarge (min (list_bound list) most_told)) refl fine)
 
@@ -219,6 +219,6 @@ payments_each (payment ∷ payments) are few =
     (each-both HasByte Few payment.blobs (layable_bytes payment.blobs are.0.blobs) parts.0, payments_each payments are.1 parts.1)
 
 -- such are those of a list that isn't refused for its size
-pub laid_payments : (list : ListParts) → AllByRecursion IsPayment list.payments → sizes.size_refusal list ≡ None
+pub laid_payments : (list : ListParts) → AllByRecursion IsPayment list.payments → sizes.list_size_refusal list ≡ None
     → AllByRecursion (λ (payment : PaymentParts). AllByRecursion IsLaid payment.blobs) list.payments
 laid_payments list are fine = payments_each list.payments are (bound_each (blobs_of list.payments) (list_fits list fine))

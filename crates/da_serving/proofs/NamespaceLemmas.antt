@@ -20,7 +20,7 @@ use Rattle.da_wire.specs.Writing.{kind_of}
 use Rattle.da_wire.specs.Values.{values_of, bad_value, IsValue}
 use Rattle.da_wire.specs.Laws.{ValuesAreTheFile, BadValueIsFirst}
 use Rattle.da_status.specs.declared.status.Status.{Status}
-use Rattle.da_status.specs.Statuses.{status_kind as kind_of_status}
+use Rattle.da_status.specs.Statuses.{status_kind}
 use Rattle.da_serving.specs.Choices.{HasFrame}
 use Rattle.da_files.specs.Requests.{namespace_of, namespaces_in}
 use Rattle.da_serving.specs.Namespace.{is_other, AllowsNames, NamespaceOf}
@@ -80,5 +80,5 @@ have_names header square there spelled (name ∷ requests) are others =
     )
 
 -- what namespace answers to its files is an answer
-pub namespace_answers : (files : List (List ℕ)) (w : List ℕ) (status : Status) → NamespaceOf files w status → IsAnswer (kind_of_status status)
+pub namespace_answers : (files : List (List ℕ)) (w : List ℕ) (status : Status) → NamespaceOf files w status → IsAnswer (status_kind status)
 namespace_answers files w status h = over_answers (λ (square : SquareShares). is_other) AllowsNames namespaces_in files w status h

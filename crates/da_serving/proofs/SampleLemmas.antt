@@ -20,7 +20,7 @@ use Rattle.da_wire.specs.Spelling.{spelling, sample_kind}
 use Rattle.da_wire.specs.Reading.{is_among}
 use Rattle.da_wire.specs.Writing.{kind_of}
 use Rattle.da_status.specs.declared.status.Status.{Status}
-use Rattle.da_status.specs.Statuses.{status_kind as kind_of_status}
+use Rattle.da_status.specs.Statuses.{status_kind}
 use Rattle.da_serving.specs.declared.extension.Extension.TheVariants.{Whole, Left}
 use Rattle.da_serving.specs.Choices.{HasFrame}
 use Rattle.da_serving.specs.Extension.{IsExtensionOf}
@@ -88,5 +88,5 @@ have_samples header square own spelled (asked ∷ requests) inside =
     ((Message m, (m, is, refl), spelled m is.proved.sized), have_samples header square own spelled requests inside.1)
 
 -- what sample answers to its files is an answer
-pub sample_answers : (files : List (List ℕ)) (w : List ℕ) (status : Status) → SampleOf files w status → IsAnswer (kind_of_status status)
+pub sample_answers : (files : List (List ℕ)) (w : List ℕ) (status : Status) → SampleOf files w status → IsAnswer (status_kind status)
 sample_answers files w status h = over_answers is_asked_inside AllowsSample samples_in files w status h

@@ -135,7 +135,7 @@ fn commit<O: Sink>(alloc: Global, block: &Block, out: &mut O) -> Status
 /// The list that transactions are read as, if it can be laid out, or the first check that fails. No square
 /// is made of it.
 fn judge_list(alloc: Global, transactions: Vec<Unit>) -> Result<TxList, ListError>
-    ensures first { lists.Answers result (list_refusal transactions.items) }
+    ensures first { lists.AnswersList result (list_refusal transactions.items) }
     ensures list { IfOk result (λ list. list ≡ list_of transactions.items) }
 {
     let list = read_list(alloc, transactions)?;
@@ -145,7 +145,7 @@ fn judge_list(alloc: Global, transactions: Vec<Unit>) -> Result<TxList, ListErro
 
 /// Writes the lines of the blobs of a list that can be laid out, as one piece.
 fn give_payments<O: Sink>(alloc: Global, list: &TxList, out: &mut O) -> Status
-    requires { lists.size_refusal list.now ≡ None }
+    requires { lists.list_size_refusal list.now ≡ None }
     ensures { EndsAtOnce (WritesText StatusOf.Done (commitment_lines (blobs_of list.now.payments)))
         (O.taken out.old) (O.taken out.new) (O.faults out.old) (O.faults out.new)
         (out.new ≡ out.old) result }

@@ -6,13 +6,13 @@ use Rattle.std.proofs.Math.Nat.{mul-suc, mul-le-mul_left}
 use Rattle.std.proofs.lemmas.List.{length-append}
 use Rattle.namespace_id.specs.declared.shares.Share.{Share}
 use Rattle.namespace_id.specs.declared.digests.Digest.{Digest}
-use Rattle.namespace_id.specs.Shares.{AreShares}
+use Rattle.namespace_id.specs.Shares.{AreShares, share_bytes}
 use Rattle.namespace_id.specs.Digests.{IsDigest, AreDigests}
 use Rattle.axis_roots.specs.declared.answers.Found.TheVariants.{Range, Absence}
 use Rattle.axis_roots.specs.declared.answers.NsEntry.{NsEntry}
-use Rattle.frame_fields.specs.Fields.{most_nodes}
+use Rattle.namespace_id.specs.Sizes.{most_nodes}
 use Rattle.square_serve.proofs.PassingLemmas.{passing_from, passing-step, passing-end}
-use Rattle.frame_payloads.specs.codec.Texts.{path_bytes, share_bytes}
+use Rattle.frame_payloads.specs.codec.Texts.{path_bytes}
 use Rattle.frame_payloads.specs.kinds.Names.{entry_bytes}
 use Rattle.frame_payloads.proofs.Fields.Digests.{length-digest_bytes}
 use Rattle.frame_payloads.proofs.Fields.Shares.{length-share_bytes}

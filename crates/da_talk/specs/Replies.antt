@@ -5,8 +5,7 @@ use Rattle.namespace_id.specs.declared.cells.Cell.{Cell}
 use Rattle.namespace_id.specs.declared.namespaces.Namespace.{Namespace}
 use Rattle.namespace_id.specs.Names.{is_parity}
 use Rattle.namespace_id.specs.Cells.{is_in_square}
-use Rattle.namespace_id.specs.Sizes.{namespace_size, share_size, digest_size}
-use Rattle.frame_fields.specs.Fields.{most_nodes}
+use Rattle.namespace_id.specs.Sizes.{namespace_size, share_size, digest_size, most_nodes}
 use Rattle.axis_roots.specs.Trees.{message_at}
 use Rattle.square_serve.specs.Answers.{is_wanted}
 use Rattle.square_serve.specs.Serving.{HeldParts, answer_for, row_entry}

@@ -9,12 +9,11 @@ use Rattle.da_wire.specs.declared.kinds.Kind.TheVariants as kinds
 use Rattle.da_wire.specs.declared.frames.FrameError.TheVariants.{Truncated, TooLong, BadKind}
 use Rattle.da_wire.specs.Spelling.{kind_byte}
 use Rattle.frame_payloads.specs.Payloads.{max_payload}
-use Rattle.da_wire.specs.Reading.{Raw, promised, raw_of, is_kind, kind_at, value_of_kind, value_at, is_among, tested_raw, tested_frame}
+use Rattle.da_wire.specs.Reading.{Raw, promised, raw_of, is_kind, kind_at, value_of_kind, value_at, is_among, tested_raw}
 use Rattle.da_wire.specs.Writing.{kind_of}
-use Rattle.da_wire.specs.Values.{value_in}
 use Rattle.frame_payloads.proofs.Fields.Readers.{bind_some, map_some}
-use Rattle.da_wire.proofs.RawLemmas.{tests_failed, frame_at, ok_some}
-use Rattle.da_wire.proofs.FrameLemmas.{tests_held, raw_some}
+use Rattle.da_wire.proofs.RawLemmas.{tests_failed, frame_at}
+use Rattle.da_wire.proofs.FrameLemmas.{tests_held}
 use Rattle.da_wire.proofs.kinds.Forms.{kind_takes}
 
 -- the kind of a frame is its first byte
@@ -23,13 +22,6 @@ unfolding raw_of
 raw_first at bytes f e =
     let t = tests_failed (ltb (length bytes) 5) (ltb max_payload (promised bytes)) (ltb (length bytes) (5 + promised bytes)) (Truncated at) (TooLong at) (Truncated at) (frame_at bytes) f e in
     ap (λ (g : Raw). g.kind) t.3
-
--- the kind of a frame that is read behind a test of it is its first byte
-tested_first : (test : ℕ → Bool) (at : ℕ) (bytes : List ℕ) (f : Raw) → tested_raw test at bytes ≡ Ok f → slice_index bytes 0 ≡ f.kind
-unfolding tested_raw
-tested_first test at bytes f e =
-    let first : ℕ = slice_index bytes 0 in
-    raw_first at bytes f (tests_held (eqb (length bytes) 0) (is_kind first) (test first) (Truncated at) (BadKind at) (raw_of at bytes) f e).1
 
 -- a frame that is read behind a test of its kind is of a kind that passes
 pub tested_kind : (test : ℕ → Bool) (at : ℕ) (bytes : List ℕ) (f : Raw) → tested_raw test at bytes ≡ Ok f → test f.kind ≡ true
@@ -79,11 +71,3 @@ value_kind byte payload value e =
 pub value_among : (kinds bytes : List ℕ) (f : Raw) (value : Frame) → tested_raw (is_among kinds) 0 bytes ≡ Ok f → value_at f.kind f.payload ≡ Some value
     → is_among kinds (kind_of value) ≡ true
 value_among kinds bytes f value e read = ap (is_among kinds) (value_kind f.kind f.payload value read) ∙ tested_kind (is_among kinds) 0 bytes f e
-
--- a value that is found at the front is of the kind that the first byte is, and of one that was asked for
-pub found_kind : (kinds bytes : List ℕ) (value : Frame) (size : ℕ) → value_in kinds bytes ≡ Some (value, size)
-    → (kind_of value ≡ slice_index bytes 0) × (is_among kinds (kind_of value) ≡ true)
-found_kind kinds bytes value size e =
-    let r = raw_some 0 (tested_raw (is_among kinds) 0 bytes) value size (ok_some (tested_frame (is_among kinds) 0 bytes) (value, size) e) in
-    let f : Raw = r.0 in
-    (value_kind f.kind f.payload value r.2 ∙ sym (tested_first (is_among kinds) 0 bytes f r.1), value_among kinds bytes f value r.1 r.2)

@@ -3,7 +3,7 @@ use Rattle.std.specs.Prelude.{ℕ, List, ◌∷◌, length, nat_lt, Option, Some
 use Rattle.std.specs.Int.{w32, to_be_bytes}
 use Rattle.std.specs.List.{AllByRecursion}
 use Rattle.namespace_id.specs.Bytes.{AreBytes}
-use Rattle.namespace_id.specs.Cells.{AreCells}
+use Rattle.namespace_id.specs.Cells.{AreCells, IsCell}
 use Rattle.data_header.specs.Headers.{IsHeader}
 use Rattle.square_layout.specs.Blocks.{IsSquare, IsBlock}
 use Rattle.da_wire.specs.declared.frames.Frame.{Frame}
@@ -16,7 +16,6 @@ use Rattle.axis_roots.specs.Messages.{IsMessage}
 use Rattle.axis_roots.specs.Answers.{AreEntries}
 use Rattle.axis_roots.specs.Claims.{IsClaim}
 use Rattle.frame_payloads.specs.Payloads.{max_payload}
-use Rattle.frame_payloads.specs.codec.Texts.{IsCell}
 use Rattle.frame_payloads.specs.kinds.Header.{header_payload}
 use Rattle.frame_payloads.specs.kinds.Square.{square_payload}
 use Rattle.frame_payloads.specs.kinds.Message.{message_payload}

@@ -3,13 +3,12 @@
 ghost use Rattle.std.specs.Prelude.{◌<◌, ◌^◌, IfSome};
 ghost use Rattle.std.specs.List.{AllByRecursion};
 ghost use Rattle.namespace_id.specs.Bytes.{AreBytes, IsString};
-ghost use Rattle.namespace_id.specs.Cells.{AreCells};
+ghost use Rattle.namespace_id.specs.Cells.{AreCells, IsCell};
 ghost use Rattle.namespace_id.specs.Names.{IsNamespace};
 ghost use Rattle.axis_roots.specs.Answers.{AreEntries};
 ghost use Rattle.data_header.specs.Headers.{IsHeader};
 ghost use Rattle.share_split.specs.Blobs.{IsNamed, signer_size};
 ghost use Rattle.square_layout.specs.Blocks.{IsBlock};
-ghost use Rattle.frame_payloads.specs.codec.Texts.{IsCell};
 ghost use Rattle.frame_payloads.specs.kinds.Clash.{AreStrings};
 ghost use Rattle.frame_payloads.specs.kinds.Commit.{IsRowSent, IsCommitSent};
 ghost use Rattle.frame_payloads.specs.kinds.Refusal.{IsRefusal};

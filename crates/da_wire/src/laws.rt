@@ -17,7 +17,7 @@ ghost use Rattle.axis_roots.specs.Claims.{ClaimParts, IsClaim, Accepts};
 ghost use Rattle.square_layout.specs.Blocks.{SquareShares, IsSquare};
 ghost use Rattle.hash_clash.specs.Collisions.{Strings};
 ghost use Rattle.blob_commit.specs.Proofs.{CommitParts, RootedParts, has_commit_shape};
-ghost use Rattle.frame_fields.specs.Fields.{most_nodes};
+ghost use Rattle.namespace_id.specs.Sizes.{most_nodes};
 ghost use Rattle.da_wire.specs.declared.frames.Frame.TheVariants.{Header, Square, Message, Names, Fraud, Missing, Clash, Sample, Request, Commit, Rooted, Transactions, Refusal, State};
 ghost use Rattle.da_wire.specs.Spelling.{spelling};
 ghost use Rattle.frame_payloads.specs.Payloads.{max_payload};

@@ -8,15 +8,11 @@ use Rattle.namespace_id.specs.declared.digests.Digest.{Digest}
 use Rattle.namespace_id.specs.declared.shares.Share.{Share}
 use Rattle.namespace_id.specs.declared.cells.Axis.{Axis}
 use Rattle.namespace_id.specs.declared.cells.Axis.TheVariants.{Row, Col}
-use Rattle.namespace_id.specs.Sizes.{share_size, digest_size, hash_size, most_depth}
+use Rattle.namespace_id.specs.Sizes.{share_size, digest_size, hash_size}
 use Rattle.namespace_id.specs.Shares.{share_of}
 use Rattle.data_header.specs.Paths.{most_hashes}
 
 -- ---- limits
-
--- the most nodes of a range proof or an absence proof, two for each level of a tree
-abbrev pub most_nodes : ℕ
-most_nodes = 2 * most_depth
 
 -- ---- fields
 

@@ -3,9 +3,9 @@
 ghost use Rattle.std.specs.Prelude.{◌≡◌, ◌≤◌, ◌*◌, length, vec_len, IfOk, IfSome};
 ghost use Rattle.std.specs.Int.{w16, w32};
 ghost use Rattle.namespace_id.specs.Answers.{Gives};
-ghost use Rattle.namespace_id.specs.Sizes.{most_depth};
+ghost use Rattle.namespace_id.specs.Sizes.{most_depth, most_nodes};
 ghost use Rattle.data_header.specs.Paths.{most_hashes};
-ghost use Rattle.frame_fields.specs.Fields.{most_nodes, hashes_at, split_into, digests_of, shares_of, shares_at, text_at, count_at, big_endian_at, byte_at, string_at, axis_at, path_at, cell_at, digest_list_at};
+ghost use Rattle.frame_fields.specs.Fields.{hashes_at, split_into, digests_of, shares_of, shares_at, text_at, count_at, big_endian_at, byte_at, string_at, axis_at, path_at, cell_at, digest_list_at};
 
 use data_header::{MOST_HASHES, RootPath};
 use namespace_id::{

@@ -1,5 +1,5 @@
 -- Widths, cells and leaf namespaces (Celestia specifications, "Data Structures").
-use Rattle.std.specs.Prelude.{◌≡◌, ℕ, ◌*◌, ◌/◌, ◌%◌, ◌≤◌, ◌==◌, ◌&&◌, ◌||◌, nat_lt, Bool, true, List, [], ◌∷◌, ◌++◌, map, if◌then◌else◌, Vec, vec_capacity}
+use Rattle.std.specs.Prelude.{◌≡◌, ℕ, ◌<◌, ◌^◌, ◌*◌, ◌/◌, ◌%◌, ◌≤◌, ◌==◌, ◌&&◌, ◌||◌, nat_lt, Bool, true, List, [], ◌∷◌, ◌++◌, map, if◌then◌else◌, Vec, vec_capacity}
 use Rattle.std.specs.declared.alloc.Global.{Global}
 use Rattle.namespace_id.specs.declared.namespaces.Namespace.{Namespace}
 use Rattle.namespace_id.specs.declared.shares.Share.{Share}
@@ -23,6 +23,11 @@ crossing Col = Row
 -- the cell of a row and a column
 abbrev pub cell_in : ℕ → ℕ → Cell
 cell_in row col = record { row = row; col = col }
+
+-- a cell has numbers of two bytes
+pub record IsCell (cell : Cell) : Type 0 where
+  pub row : cell.row < 2 ^ 16
+  pub col : cell.col < 2 ^ 16
 
 -- whether the extended square of this width has the cell
 abbrev pub is_in_square : ℕ → Cell → Bool

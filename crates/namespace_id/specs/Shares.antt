@@ -1,6 +1,6 @@
 -- Shares (Celestia specifications, "Shares").
 use Rattle.std.specs.Prelude.{ℕ, List, take}
-use Rattle.std.specs.List.{AllByRecursion}
+use Rattle.std.specs.List.{AllByRecursion, flat_map}
 use Rattle.namespace_id.specs.declared.namespaces.Namespace.{Namespace}
 use Rattle.namespace_id.specs.declared.shares.Share.{Share}
 use Rattle.namespace_id.specs.Bytes.{IsString}
@@ -21,3 +21,7 @@ AreShares shares = AllByRecursion IsShare shares
 -- the namespace that a share begins with
 abbrev pub name_in : Share → Namespace
 name_in share = record { 0 = take namespace_size share.0 }
+
+-- the bytes of shares, one after another
+abbrev pub share_bytes : List Share → List ℕ
+share_bytes shares = flat_map (λ (share : Share). share.0) shares

@@ -32,3 +32,7 @@ most_leaves = 2 * greatest_width
 -- the most levels of such a tree below its root
 abbrev pub most_depth : ℕ
 most_depth = 10
+
+-- the most nodes of a proof of a range or of an absence, two for each level of a tree
+abbrev pub most_nodes : ℕ
+most_nodes = 2 * most_depth

@@ -15,7 +15,7 @@ use Rattle.share_split.specs.Blobs.{NamedBytes, IsNamed, max_sequence_length, ve
 use Rattle.share_split.specs.Units.{unit_text, units_text, unit_shares_of, unit_share_count}
 use Rattle.share_split.specs.Joined.{IsBlob}
 use Rattle.share_split.specs.Joined.Piece.{blob}
-use Rattle.share_split.specs.Walks.{is_signed, share_fields, blobs_from, blobs_joined as blobs_read, units_in, units_of}
+use Rattle.share_split.specs.Walks.{is_signed, share_fields, blobs_from, blobs_joined, units_in, units_of}
 use Rattle.share_split.proofs.Reading.Fields.{opening, opening_is_first}
 use Rattle.share_split.proofs.Reading.Signers.{blob_label}
 use Rattle.share_split.proofs.Reading.BlobRead.{pieces_read}
@@ -67,7 +67,7 @@ some_bytes : (n : ℕ) → 1 ≤ n → (n == 0) ≡ false
 some_bytes n h = grind (arith, nat_tests)
 
 -- the shares of a blob are read as it
-blob_read : (one : NamedBytes) → IsBlob one → blobs_read (blob_shares_of one.namespace one.signer one.bytes) ≡ Ok (one ∷ [])
+blob_read : (one : NamedBytes) → IsBlob one → blobs_joined (blob_shares_of one.namespace one.signer one.bytes) ≡ Ok (one ∷ [])
 blob_read one is =
     ap (blobs_from 0 None) (sym (append-nil (blob_shares_of one.namespace one.signer one.bytes))) ∙ pieces_read 0 (blob one ∷ []) (is, tt)
 
@@ -87,7 +87,7 @@ blob_found shares place one is some e =
     let sequence : sequence_at shares place ≡ blob_shares_of one.namespace one.signer one.bytes =
     ap (λ (o : Option Share). option_map_or (λ s. take (stated_count s) (drop place shares)) o []) got
     ∙ ap (λ (n : ℕ). take n (drop place shares)) count ∙ e in
-    ap (λ (l : List Share). one_blob (blobs_read l)) sequence ∙ ap one_blob (blob_read one is)
+    ap (λ (l : List Share). one_blob (blobs_joined l)) sequence ∙ ap one_blob (blob_read one is)
 
 -- ---- blobs at their places
 

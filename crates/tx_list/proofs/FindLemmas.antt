@@ -13,7 +13,7 @@ use Rattle.share_split.specs.declared.joining.JoinError.{JoinError}
 use Rattle.share_split.specs.Blobs.{NamedBytes, signer_size, signer_bytes}
 use Rattle.share_split.specs.Joined.{Piece, IsBlob, IsPiece, piece_blobs, AreBlobs}
 use Rattle.share_split.specs.Joined.Piece.{padding, blob}
-use Rattle.share_split.specs.Walks.{blobs_joined as blobs_read}
+use Rattle.share_split.specs.Walks.{blobs_joined}
 use Rattle.share_split.proofs.Reading.JoinLaws.{blobs_law}
 use Rattle.square_layout.specs.Blocks.{HaveBytes}
 use Rattle.tx_list.specs.Wrapped.{some_field}
@@ -57,14 +57,14 @@ one_held shares blobs found are is =
     subst (λ (o : Option NamedBytes). IfSome o IsBlob) (sym is)
     (one_is blobs (subst (AllByRecursion IsBlob) (sym are.shown) (pieces_shown are.pieces are.are_pieces)))
 
-found_by : (shares : List Share) (read : Result (List NamedBytes) JoinError) → AreShares shares → blobs_read shares ≡ read → IfSome (one_blob read) IsBlob
+found_by : (shares : List Share) (read : Result (List NamedBytes) JoinError) → AreShares shares → blobs_joined shares ≡ read → IfSome (one_blob read) IsBlob
 found_by shares (Err why) wholes e = tt
 found_by shares (Ok blobs) wholes e = one_held shares blobs (the_one blobs) ((blobs_law shares blobs wholes).0 e) refl
 
 -- and what is found at a place
 pub found_is_blob : (shares : List Share) (place : ℕ) → AreShares shares → IfSome (blob_at shares place) IsBlob
 found_is_blob shares place wholes =
-    found_by (sequence_at shares place) (blobs_read (sequence_at shares place)) (sequence_of shares place (slice_get shares place) wholes) refl
+    found_by (sequence_at shares place) (blobs_joined (sequence_at shares place)) (sequence_of shares place (slice_get shares place) wholes) refl
 
 alone : (found : Option NamedBytes) → IfSome found IsBlob → AllByRecursion IsBlob (option_map_or (λ one. one ∷ []) found [])
 alone None is = tt

@@ -52,20 +52,9 @@ no_claim header plan (light.Rejected claim) is = some_between is.1 is.2 _ is.3
 not_below : (a b : ℕ) → (a < b → ⊥) → nat_lt a b ≡ false
 not_below a b h = grind (arith, nat_tests)
 
--- a number is below another
-is_below : (a b : ℕ) → a < b → nat_lt a b ≡ true
-is_below a b h = grind (arith, nat_tests)
-
 -- what is asked for, by whether the count is above the limit
 abbrev by_limit : Bool → Axis → Roots → List Cell → Relation
 by_limit over axis header plan = Counted over (AsksPlanned axis header plan)
-
--- a count above the limit is refused
-pub asks_over : (axis : Axis) (key : List ℕ) (count : ℕ) (header : Roots) → draw_limit header.k < count
-    → AsksFirst axis key count header [] (BadRequest Count)
-asks_over axis key count header over =
-    subst (λ (b : Bool). by_limit b axis header (drawn_cells key header.k count) [] (BadRequest Count))
-    (sym (is_below (draw_limit header.k) count over)) (refl, refl)
 
 -- what is asked for after the verdict on the cells that the key draws
 pub asks_verdict : (axis : Axis) (key : List ℕ) (count : ℕ) (header : Roots) (plan : List Cell) (verdict : Light)

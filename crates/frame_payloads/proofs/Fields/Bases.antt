@@ -16,7 +16,8 @@ use Rattle.namespace_id.specs.declared.namespaces.Namespace.{Namespace}
 use Rattle.namespace_id.specs.declared.shares.Share.{Share}
 use Rattle.data_header.specs.Paths.{most_hashes}
 use Rattle.frame_fields.specs.Fields.{byte_at, big_endian_at, string_at, cell_at, axis_at, path_at, hashes_at, digest_list_at, text_at, list_at}
-use Rattle.frame_payloads.specs.codec.Texts.{axis_byte, cell_bytes, path_bytes, digest_list, text_bytes, list_bytes, IsCell}
+use Rattle.frame_payloads.specs.codec.Texts.{axis_byte, cell_bytes, path_bytes, digest_list, text_bytes, list_bytes}
+use Rattle.namespace_id.specs.Cells.{IsCell}
 use Rattle.frame_payloads.specs.kinds.Commit.{hash_bytes}
 use Rattle.frame_payloads.proofs.Fields.Numbers.{IsWide, wide16, wide32, number_takes, number_again}
 use Rattle.frame_payloads.proofs.Fields.Strings.{byte_takes, string_takes, string_again}

@@ -6,10 +6,10 @@ use Rattle.std.specs.List.{flat_map, AllByRecursion}
 use Rattle.std.proofs.lemmas.List.{take-append-drop, length-append, length-drop, drop-drop, nil_from_length}
 use Rattle.namespace_id.specs.declared.cells.Cell.{Cell}
 use Rattle.namespace_id.specs.Bytes.{AreBytes}
-use Rattle.namespace_id.specs.Cells.{cell_in}
+use Rattle.namespace_id.specs.Cells.{cell_in, IsCell}
 use Rattle.namespace_id.proofs.StringLemmas.{AreBytes-take, AreBytes-drop}
 use Rattle.frame_fields.specs.Fields.{◌>>=◌, big_endian_at, cells_of, cell_at}
-use Rattle.frame_payloads.specs.codec.Texts.{cell_bytes, IsCell}
+use Rattle.frame_payloads.specs.codec.Texts.{cell_bytes}
 use Rattle.frame_payloads.proofs.Fields.Readers.{bind_some, bind_again, Takes, Takes-then, Takes-read}
 use Rattle.frame_payloads.proofs.Fields.Numbers.{wide16, number_takes, number_again}
 

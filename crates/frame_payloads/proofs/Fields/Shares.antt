@@ -2,9 +2,8 @@
 use Rattle.std.proofs.Common.{◌≡◌, ◌*◌, ℕ, List, ◌++◌, length, Some, refl}
 use Rattle.namespace_id.specs.declared.shares.Share.{Share}
 use Rattle.namespace_id.specs.Bytes.{AreBytes}
-use Rattle.namespace_id.specs.Shares.{AreShares, share_of}
+use Rattle.namespace_id.specs.Shares.{AreShares, share_of, share_bytes}
 use Rattle.frame_fields.specs.Fields.{shares_at}
-use Rattle.frame_payloads.specs.codec.Texts.{share_bytes}
 use Rattle.frame_payloads.proofs.Fields.Readers.{Takes}
 use Rattle.frame_payloads.proofs.Fields.Split.{AreTexts, length-value_bytes, values_take, values_again}
 

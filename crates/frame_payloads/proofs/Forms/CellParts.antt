@@ -9,13 +9,13 @@ use Rattle.namespace_id.specs.declared.cells.Cell.{Cell}
 use Rattle.namespace_id.specs.declared.digests.Digest.{Digest}
 use Rattle.namespace_id.specs.Bytes.{AreBytes}
 use Rattle.namespace_id.specs.Digests.{AreDigests}
-use Rattle.namespace_id.specs.Cells.{crossing}
+use Rattle.namespace_id.specs.Cells.{crossing, IsCell}
 use Rattle.namespace_id.specs.Sizes.{most_depth}
 use Rattle.axis_roots.specs.Messages.{position, index}
 use Rattle.axis_roots.specs.Lines.{cell_on}
 use Rattle.axis_roots.specs.Sets.{is_one_axis}
 use Rattle.axis_roots.proofs.Grids.AxisLemmas.{cell_on-own}
-use Rattle.frame_payloads.specs.codec.Texts.{path_bytes, IsCell}
+use Rattle.frame_payloads.specs.codec.Texts.{path_bytes}
 use Rattle.frame_payloads.specs.kinds.Fraud.{tag_at, cell_path_at}
 use Rattle.frame_payloads.proofs.Fields.Readers.{Takes}
 use Rattle.frame_payloads.proofs.Fields.Strings.{AreBytes-rest}

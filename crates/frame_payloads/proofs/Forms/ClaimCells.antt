@@ -10,7 +10,7 @@ use Rattle.axis_roots.specs.Messages.{IsMessage, position, index}
 use Rattle.axis_roots.specs.Lines.{cell_on}
 use Rattle.axis_roots.specs.Sets.{is_one_axis, is_along}
 use Rattle.axis_roots.proofs.Grids.AxisLemmas.{index-cell_on, position-cell_on}
-use Rattle.frame_payloads.specs.codec.Texts.{IsCell}
+use Rattle.namespace_id.specs.Cells.{IsCell}
 use Rattle.frame_payloads.specs.kinds.Fraud.{cell_payload, tag_at, cell_path_at, set_cell_at}
 use Rattle.frame_payloads.proofs.Fields.Texts.{IsField}
 use Rattle.frame_payloads.proofs.Fields.Fields.{Fields, AreMaps, ◌▸◌, then_field, one, made_field}

@@ -3,10 +3,9 @@ use Rattle.std.proofs.Common.{◌≡◌, ◌∙◌, ℕ, ◌+◌, ◌*◌, ◌�
 use Rattle.std.specs.Int.{w16, to_be_bytes}
 use Rattle.std.specs.List.{AllByRecursion, list_any}
 use Rattle.std.proofs.lemmas.Bool.{or_parts, or_from}
-use Rattle.namespace_id.specs.Sizes.{hash_size, digest_size}
+use Rattle.namespace_id.specs.Sizes.{hash_size, digest_size, most_nodes}
 use Rattle.data_header.specs.Paths.{most_hashes}
 use Rattle.blob_commit.specs.Proofs.{RowParts, CommitParts, RootedParts, IsRow, IsRooted}
-use Rattle.frame_fields.specs.Fields.{most_nodes}
 use Rattle.frame_payloads.specs.Payloads.{max_payload, IsSize}
 use Rattle.frame_payloads.specs.codec.Texts.{path_bytes, list_bytes, digest_list}
 use Rattle.frame_payloads.specs.kinds.Message.{message_payload}

@@ -5,12 +5,12 @@ use Rattle.std.specs.Int.{w16, to_be_bytes}
 use Rattle.namespace_id.specs.declared.digests.Digest.{Digest}
 use Rattle.namespace_id.specs.declared.shares.Share.{Share}
 use Rattle.namespace_id.specs.Bytes.{AreBytes}
-use Rattle.namespace_id.specs.Shares.{AreShares}
+use Rattle.namespace_id.specs.Shares.{AreShares, share_bytes}
 use Rattle.axis_roots.specs.declared.answers.Found.{Found}
 use Rattle.axis_roots.specs.declared.answers.Found.TheVariants.{Range, Absence}
 use Rattle.axis_roots.specs.Answers.{IsFound}
-use Rattle.frame_fields.specs.Fields.{most_nodes, count_at, shares_at}
-use Rattle.frame_payloads.specs.codec.Texts.{share_bytes}
+use Rattle.frame_fields.specs.Fields.{count_at, shares_at}
+use Rattle.namespace_id.specs.Sizes.{most_nodes}
 use Rattle.frame_payloads.specs.kinds.Names.{most_shares_shown, is_long_found, share_list_bytes, found_bytes, share_list_at, range_at, absence_at, found_at}
 use Rattle.frame_payloads.proofs.Fields.Readers.{bind_some, bind_again, Takes, Takes-then}
 use Rattle.frame_payloads.proofs.Fields.Numbers.{wide16, count_takes, count_again}

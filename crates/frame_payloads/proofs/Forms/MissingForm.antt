@@ -7,11 +7,11 @@ use Rattle.std.proofs.lemmas.Bool.{and_parts, or_parts, or_from, not-false, not_
 use Rattle.std.proofs.lemmas.Option.{cond_some}
 use Rattle.namespace_id.specs.declared.cells.Cell.{Cell}
 use Rattle.namespace_id.specs.Bytes.{AreBytes}
-use Rattle.namespace_id.specs.Cells.{is_width, is_in_square, is_before, are_cells, CellList, AreCells}
+use Rattle.namespace_id.specs.Cells.{is_width, is_in_square, is_before, are_cells, CellList, AreCells, IsCell}
 use Rattle.namespace_id.specs.Lists.{holds_along}
 use Rattle.namespace_id.specs.Sizes.{greatest_width}
 use Rattle.frame_fields.specs.Fields.{◌>>=◌, big_endian_at, cells_of}
-use Rattle.frame_payloads.specs.codec.Texts.{cell_bytes, IsCell}
+use Rattle.frame_payloads.specs.codec.Texts.{cell_bytes}
 use Rattle.frame_payloads.specs.kinds.Missing.{missing_payload, missing_at}
 use Rattle.frame_payloads.proofs.Fields.Readers.{bind_some, bind_again, if_false, if_false_again, if_true_again, Takes, Takes-then}
 use Rattle.frame_payloads.proofs.Fields.Numbers.{wide16, wide32, number_takes, number_again}

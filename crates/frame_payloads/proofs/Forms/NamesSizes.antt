@@ -6,14 +6,14 @@ use Rattle.std.proofs.lemmas.Bool.{or_parts}
 use Rattle.std.proofs.lemmas.List.{length-append}
 use Rattle.namespace_id.specs.declared.namespaces.Namespace.{Namespace}
 use Rattle.namespace_id.specs.Names.{IsNamespace}
-use Rattle.namespace_id.specs.Sizes.{share_size, digest_size}
+use Rattle.namespace_id.specs.Sizes.{share_size, digest_size, most_nodes}
 use Rattle.axis_roots.specs.declared.answers.Found.{Found}
 use Rattle.axis_roots.specs.declared.answers.Found.TheVariants.{Range, Absence}
 use Rattle.axis_roots.specs.declared.answers.NsEntry.{NsEntry}
 use Rattle.axis_roots.specs.Answers.{IsEntry, AreEntries}
-use Rattle.frame_fields.specs.Fields.{most_nodes}
 use Rattle.frame_payloads.specs.Payloads.{max_payload}
-use Rattle.frame_payloads.specs.codec.Texts.{path_bytes, share_bytes, list_bytes}
+use Rattle.frame_payloads.specs.codec.Texts.{path_bytes, list_bytes}
+use Rattle.namespace_id.specs.Shares.{share_bytes}
 use Rattle.frame_payloads.specs.kinds.Names.{most_entries, most_shares_shown, is_long_entry, is_long_answer, found_bytes, entry_bytes, names_payload}
 use Rattle.frame_payloads.proofs.Fields.Digests.{length-digest_bytes}
 use Rattle.frame_payloads.proofs.Fields.Shares.{length-share_bytes}

@@ -6,7 +6,7 @@ use Rattle.namespace_id.specs.declared.cells.Axis.{Axis}
 use Rattle.namespace_id.specs.declared.namespaces.Namespace.{Namespace}
 use Rattle.namespace_id.specs.Bytes.{AreBytes}
 use Rattle.namespace_id.specs.Names.{IsNamespace, named_by}
-use Rattle.frame_payloads.specs.codec.Texts.{IsCell}
+use Rattle.namespace_id.specs.Cells.{IsCell}
 use Rattle.frame_payloads.specs.kinds.Requests.{sample_payload, request_payload, sample_at, request_at}
 use Rattle.frame_payloads.proofs.Fields.Readers.{if_true_again}
 use Rattle.frame_payloads.proofs.Fields.Fields.{AreMaps, ◌▸◌}

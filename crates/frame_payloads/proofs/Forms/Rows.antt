@@ -1,7 +1,7 @@
 -- A row of a commitment proof that is read is the one that was written, and one that was written is read.
 use Rattle.std.proofs.Common.{◌≡◌, ◌++◌, false, ℕ, List, length-append, refl, arith, ltb-false, le-ltb}
 use Rattle.blob_commit.specs.Proofs.{RowParts}
-use Rattle.frame_fields.specs.Fields.{most_nodes}
+use Rattle.namespace_id.specs.Sizes.{most_nodes}
 use Rattle.frame_payloads.specs.codec.Texts.{path_bytes, digest_list}
 use Rattle.frame_payloads.specs.kinds.Commit.{most_row_subtrees, IsRowSent, is_long_row, hash_bytes, row_bytes, row_at}
 use Rattle.frame_payloads.proofs.Fields.Fields.{AreMaps, ◌▸◌, made_field}

@@ -5,12 +5,11 @@ use Rattle.std.proofs.lemmas.Bool.{not-false, not_from_true}
 use Rattle.std.proofs.lemmas.Option.{cond_some}
 use Rattle.namespace_id.specs.declared.shares.Share.{Share}
 use Rattle.namespace_id.specs.Bytes.{AreBytes}
-use Rattle.namespace_id.specs.Shares.{AreShares, share_of}
+use Rattle.namespace_id.specs.Shares.{AreShares, share_of, share_bytes}
 use Rattle.namespace_id.specs.Cells.{is_width}
 use Rattle.namespace_id.specs.Sizes.{greatest_width}
 use Rattle.square_layout.specs.Blocks.{SquareShares, IsSquare}
 use Rattle.frame_fields.specs.Fields.{big_endian_at, shares_of}
-use Rattle.frame_payloads.specs.codec.Texts.{share_bytes}
 use Rattle.frame_payloads.specs.kinds.Square.{square_payload, square_at}
 use Rattle.frame_payloads.proofs.Fields.Readers.{bind_some, bind_again, if_false, if_false_again, if_true_again}
 use Rattle.frame_payloads.proofs.Fields.Numbers.{wide16, number_takes, number_again}

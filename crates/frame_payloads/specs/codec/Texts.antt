@@ -1,9 +1,8 @@
 -- The bytes that each field of a payload is written as.
-use Rattle.std.specs.Prelude.{ℕ, List, ◌∷◌, length, ◌<◌, ◌^◌, ◌++◌}
+use Rattle.std.specs.Prelude.{ℕ, List, ◌∷◌, length, ◌++◌}
 use Rattle.std.specs.Int.{Width, w16, to_be_bytes}
 use Rattle.namespace_id.specs.declared.cells.Cell.{Cell}
 use Rattle.namespace_id.specs.declared.digests.Digest.{Digest}
-use Rattle.namespace_id.specs.declared.shares.Share.{Share}
 use Rattle.std.specs.List.{flat_map}
 use Rattle.namespace_id.specs.declared.cells.Axis.{Axis}
 use Rattle.namespace_id.specs.declared.cells.Axis.TheVariants.{Row, Col}
@@ -15,10 +14,6 @@ digest_bytes digests = flat_map (λ d. d.0) digests
 -- nodes behind their count in a byte
 abbrev pub path_bytes : List Digest → List ℕ
 path_bytes nodes = length nodes ∷ digest_bytes nodes
-
--- the bytes of shares, one after another
-abbrev pub share_bytes : List Share → List ℕ
-share_bytes shares = flat_map (λ s. s.0) shares
 
 -- the byte of an axis: 0 for a row, 1 for a column
 abbrev pub axis_byte : Axis → ℕ
@@ -40,8 +35,3 @@ list_bytes w bytes_of values = to_be_bytes w (length values) ++ flat_map bytes_o
 -- digests behind their count in two bytes
 abbrev pub digest_list : List Digest → List ℕ
 digest_list digests = list_bytes w16 (λ d. d.0) digests
-
--- a cell has numbers of two bytes
-pub record IsCell (cell : Cell) : Type 0 where
-  pub row : cell.row < 2 ^ 16
-  pub col : cell.col < 2 ^ 16

@@ -2,11 +2,11 @@
 use Rattle.std.specs.Prelude.{◌≤◌, ◌<◌, ◌^◌, ℕ, List, ◌∷◌, length, nat_lt, Option, Some, None, if◌then◌else◌, ◌==◌, ◌||◌, Bool, ◌++◌}
 use Rattle.std.specs.Int.{w16, w32, to_be_bytes}
 use Rattle.std.specs.List.{AllByRecursion, flat_map, list_any}
-use Rattle.namespace_id.specs.Sizes.{hash_size, digest_size, greatest_width}
+use Rattle.namespace_id.specs.Sizes.{hash_size, digest_size, greatest_width, most_nodes}
 use Rattle.namespace_id.specs.Bytes.{IsString}
 use Rattle.data_header.specs.Paths.{most_hashes}
 use Rattle.blob_commit.specs.Proofs.{RowParts, CommitParts, IsRow}
-use Rattle.frame_fields.specs.Fields.{◌>>=◌, most_nodes, string_at, big_endian_at, digest, digest_list_at, path_at, hashes_at, list_at}
+use Rattle.frame_fields.specs.Fields.{◌>>=◌, string_at, big_endian_at, digest, digest_list_at, path_at, hashes_at, list_at}
 use Rattle.frame_payloads.specs.codec.Texts.{path_bytes, list_bytes, digest_list}
 
 -- the most rows of a commitment proof, as many as the greatest square has

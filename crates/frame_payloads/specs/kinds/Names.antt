@@ -4,7 +4,7 @@ use Rattle.std.specs.Int.{w16, to_be_bytes}
 use Rattle.std.specs.List.{list_any}
 use Rattle.std.specs.Option.{option_map}
 use Rattle.namespace_id.specs.declared.namespaces.Namespace.{Namespace}
-use Rattle.namespace_id.specs.Sizes.{namespace_size, share_size, digest_size, greatest_width}
+use Rattle.namespace_id.specs.Sizes.{namespace_size, share_size, digest_size, greatest_width, most_nodes}
 use Rattle.namespace_id.specs.declared.shares.Share.{Share}
 use Rattle.axis_roots.specs.declared.answers.Found.{Found}
 use Rattle.axis_roots.specs.declared.answers.Found.TheVariants.{Range, Absence}
@@ -14,7 +14,7 @@ use Rattle.frame_payloads.specs.declared.kinds.names.FoundFields.TheVariants as 
 use Rattle.frame_payloads.specs.declared.shown.FoundPlace.{FoundPlace}
 use Rattle.frame_payloads.specs.declared.shown.FoundPlace.TheVariants as place
 use Rattle.frame_payloads.specs.declared.shown.EntryPlace.{EntryPlace}
-use Rattle.frame_fields.specs.Fields.{◌>>=◌, big_endian_at, byte_at, string_at, count_at, list_at, path_at, shares_at, shares_of, digests_of, digest, most_nodes}
+use Rattle.frame_fields.specs.Fields.{◌>>=◌, big_endian_at, byte_at, string_at, count_at, list_at, path_at, shares_at, shares_of, digests_of, digest}
 use Rattle.frame_payloads.specs.codec.Texts.{path_bytes, list_bytes}
 
 -- ---- limits

@@ -5,7 +5,7 @@ use Rattle.namespace_id.specs.Cells.{is_width}
 use Rattle.namespace_id.specs.Sizes.{share_size}
 use Rattle.square_layout.specs.Blocks.{SquareShares}
 use Rattle.frame_fields.specs.Fields.{◌>>=◌, big_endian_at, shares_of}
-use Rattle.frame_payloads.specs.codec.Texts.{share_bytes}
+use Rattle.namespace_id.specs.Shares.{share_bytes}
 
 -- a width, and its shares, row-major
 abbrev pub square_payload : SquareShares → List ℕ

@@ -5,7 +5,8 @@ ghost use Rattle.std.specs.List.{list_any};
 ghost use Rattle.std.specs.Option.{option_map};
 ghost use Rattle.namespace_id.specs.Answers.{Gives, HasRoom};
 ghost use Rattle.axis_roots.specs.declared.answers.Found.TheVariants.{Range, Absence};
-ghost use Rattle.frame_fields.specs.Fields.{most_nodes, read_items, shares_of};
+ghost use Rattle.frame_fields.specs.Fields.{read_items, shares_of};
+ghost use Rattle.namespace_id.specs.Sizes.{most_nodes};
 ghost use Rattle.frame_payloads.specs.Payloads.{GivesUnlessFull, IsSize, Puts};
 ghost use Rattle.frame_payloads.specs.kinds.Names.{most_shares_shown, is_long_found, is_long_entry, is_long_answer, entry_bytes, names_payload, share_list_at, range_at, absence_at, found_at, entry_at, entries_at, names_at, found_place, entry_place, answer_places, place_at, found_seen, HasShares, HasFewNodes, HasNodeBytes};
 

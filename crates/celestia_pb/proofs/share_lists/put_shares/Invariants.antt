@@ -1,5 +1,5 @@
 use Rattle.std.proofs.Common.{◌≡◌, ◌+◌, ◌≤◌, ◌++◌, drop, length, vec_len, vec_capacity}
-use Rattle.celestia_pb.specs.Ods.{share_bytes}
+use Rattle.namespace_id.specs.Shares.{share_bytes}
 use Rattle.celestia_pb.proofs.share_lists.put_shares.Given as goal
 
 -- what is there and what is left are all, and there is capacity for what is left

@@ -1,6 +1,7 @@
 use Rattle.da_files.specs.Contents.{contents_of}
 use Rattle.da_exchanging.specs.Made.{WritesIf}
-use Rattle.da_exchanging.specs.Befp.{claim_in, claim_message}
+use Rattle.da_exchanging.specs.Befp.{claim_message}
+use Rattle.da_files.specs.Frames.{claim_in}
 use Rattle.da_exchanging.proofs.MadeLemmas.{read_made, no_frame}
 use Rattle.da_exchanging.proofs.befp.export.Goals as goal
 

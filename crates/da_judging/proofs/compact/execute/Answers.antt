@@ -2,9 +2,9 @@ use Rattle.std.proofs.Common.{◌∙◌, ◌∷◌, [], Err, refl, sym, ap, subs
 use Rattle.axis_roots.specs.Claims.{ClaimParts}
 use Rattle.da_files.specs.declared.frames.Unread.{Unread}
 use Rattle.da_files.specs.Contents.{contents_of}
-use Rattle.da_files.specs.Frames.{header_in, error_of, ReadsSingle}
+use Rattle.da_files.specs.Frames.{header_in, error_of, ReadsSingle, claim_in}
 use Rattle.da_files.specs.Forms.{single_judged, under_judged}
-use Rattle.da_judging.specs.Compact.{claim_in, claim_file, CompactsJudged, CompactOf}
+use Rattle.da_judging.specs.Compact.{claim_file, CompactsJudged, CompactOf}
 use Rattle.da_status.specs.Judging.{Judged}
 use Rattle.da_status.proofs.EndLemmas.{once_as}
 use Rattle.da_files.proofs.FormLemmas.{refused_once, refused_more}

@@ -3,10 +3,9 @@ use Rattle.da_wire.specs.Spelling.{fraud_kind}
 use Rattle.da_wire.specs.Reading.{only_of}
 use Rattle.da_wire.specs.Single.{claim_of}
 use Rattle.da_files.specs.declared.frames.Unread.{Unread}
-use Rattle.da_files.specs.Frames.{ReadsSingle}
+use Rattle.da_files.specs.Frames.{ReadsSingle, claim_in}
 use Rattle.da_files.proofs.FrameLemmas.{is_read, is_unread}
-use Rattle.da_exchanging.specs.Befp.{claim_in}
-use Rattle.da_exchanging.proofs.befp.claim_in.Goals as goal
+use Rattle.da_files.proofs.frames.claim_in.Goals as goal
 
 -- what was read is what the file is
 pub returns-in-Ok : goal.returns-in-Ok
