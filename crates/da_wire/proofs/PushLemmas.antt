@@ -13,12 +13,11 @@ use Rattle.da_wire.specs.Spelling.{message_kind}
 use Rattle.da_wire.specs.Reading.{Raw, promised}
 use Rattle.da_wire.specs.Frames.{frames_of, raw_message}
 use Rattle.frame_fields.specs.Messages.{message_at}
-use Rattle.frame_payloads.specs.kinds.Message.{most_message}
-use Rattle.da_wire.specs.StreamParts.{StreamParts, kept_front, under_way, is_long, front_message, front_frame, IsStream, IsUnfinished, KeepsFront, IsTakenPiece}
-use Rattle.da_wire.specs.Streams.{if_short, StreamStands, IsPush, why_no_frame}
+use Rattle.da_wire.specs.StreamParts.{StreamParts, kept_front, under_way, is_long, front_message, IsStream, IsUnfinished, KeepsFront, IsTakenPiece}
+use Rattle.da_wire.specs.Streams.{StreamStands, IsPush, why_no_frame}
 use Rattle.da_wire.proofs.RawLemmas.{frame_at}
 use Rattle.frame_payloads.proofs.MessageLengths.{message_at-long}
-use Rattle.da_wire.proofs.StreamLemmas.{part_len, part_head, part_at, seen, stands_on, reached_long, reached_part, reached_whole, kept_told, stands_next, none_not_long}
+use Rattle.da_wire.proofs.StreamLemmas.{part_len, part_head, part_at, seen, stands_on, reached_long, reached_part, reached_whole, stands_next, none_not_long}
 
 -- ---- before and after a push
 
@@ -27,7 +26,6 @@ pub record IsStep (at taken : ℕ) (front new before piece : List ℕ) (count : 
   pub begun : at ≤ taken
   pub unfinished : IsUnfinished front (taken - at)
   pub stands : StreamStands (record { at = at; taken = taken; front = front }) before
-  pub none : count ≡ 0 → new ≡ front
   pub keeps : KeepsFront kept_front front new (taken - at) (take count piece)
   pub counts : IsTakenPiece front new (taken - at) (length piece) count
   pub fits : AreBytes piece
@@ -35,13 +33,12 @@ pub record IsStep (at taken : ℕ) (front new before piece : List ℕ) (count : 
 -- a push of a stream whose fields these are
 pub step_of : (at taken : ℕ) (front new before piece : List ℕ) (count : ℕ) (stream : StreamParts) → record { at = at; taken = taken; front = front } ≡ stream
     → IsStream (record { at = at; taken = taken; front = front }) → StreamStands stream before
-    → (count ≡ 0 → new ≡ front) → KeepsFront (length front) front new (taken - at) (take count piece) → IsTakenPiece front new (taken - at) (length piece) count → AreBytes piece
+    → KeepsFront (length front) front new (taken - at) (take count piece) → IsTakenPiece front new (taken - at) (length piece) count → AreBytes piece
     → IsStep at taken front new before piece count
-step_of at taken front new before piece count stream same is stands none keeps counts fits = record {
+step_of at taken front new before piece count stream same is stands keeps counts fits = record {
   begun = is.begun;
   unfinished = is.unfinished;
   stands = subst (λ (s : StreamParts). StreamStands s before) (sym same) stands;
-  none = none;
   keeps = subst (λ (n : ℕ). KeepsFront n front new (taken - at) (take count piece)) is.room keeps;
   counts = counts;
   fits = fits;
@@ -53,7 +50,7 @@ pub step_stands : (at taken : ℕ) (front new before piece : List ℕ) (count : 
 step_stands at taken front new before piece count step =
     let len : length (take count piece) ≡ count = length-take-le count piece step.counts.within in
     subst (λ (n : ℕ). StreamStands (record { at = at; taken = taken + n; front = new }) (before ++ take count piece)) len
-    (stands_on at taken front new before (take count piece) step.begun step.stands (λ none. step.none (sym len ∙ none)) step.keeps (AreBytes-take count piece step.fits))
+    (stands_on at taken front new before (take count piece) step.begun step.stands step.keeps (AreBytes-take count piece step.fits))
 
 -- the frames before the one under way stay
 step_front : (at taken : ℕ) (front new before piece : List ℕ) (count : ℕ) → IsStep at taken front new before piece count
@@ -189,33 +186,6 @@ message_same s bytes stands whole =
     kind (le-leb (5 + promised s.front) kept_front h) (ap message_at (payload_same s bytes stands whole h)))
     (cases_lt kept_front (5 + promised s.front))
 
--- tests that are one
-both_tests : {A : Type 0} (a b : Bool) (x y : A) → a ≡ b → x ≡ y → cond a (Some x) None ≡ cond b (Some y) None
-both_tests true true x y e f = ap Some f
-both_tests false false x y e f = refl
-both_tests true false x y e f = absurd cc
-both_tests false true x y e f = absurd cc
-
--- the frame in the room is the whole frame, where it is short
-frame_same : (s : StreamParts) (bytes : List ℕ) → StreamStands s bytes → under_way s ≡ 5 + promised s.front → if_short (frame_at (drop s.at bytes)) ≡ front_frame s.front
-frame_same s bytes stands whole =
-    let raw : Raw = frame_at (drop s.at bytes) in
-    let p : ℕ = promised s.front in
-    let head : promised (drop s.at bytes) ≡ p = part_head s bytes stands (omega (arith, whole)) in
-    let long : length raw.payload ≡ p =
-    length-take-le (promised (drop s.at bytes)) (drop 5 (drop s.at bytes)) (omega (arith, head, whole, part_len s bytes stands, length-drop 5 (drop s.at bytes))) ∙ head in
-    ⊎_elim
-    (λ (h : kept_front < 5 + p).
-    ap (λ (b : Bool). cond b (Some raw) None) (lt-leb (length raw.payload) most_message (omega (arith, long, h)))
-    ∙ sym (ap (λ (b : Bool). cond b (Some (frame_at s.front)) None) (lt-leb (5 + p) kept_front h)))
-    (λ (h : 5 + p ≤ kept_front).
-    let same : raw ≡ frame_at s.front =
-    ap (λ (n : ℕ). record { kind = get_or (drop s.at bytes) 0 0; payload = raw.payload; size = 5 + n }) head
-    ∙ ap₂ (λ (n : ℕ) (l : List ℕ). record { kind = n; payload = l; size = 5 + p }) (sym (kind_same s bytes stands (omega (arith, whole)))) (sym (payload_same s bytes stands whole h)) in
-    both_tests (leb (length raw.payload) most_message) (leb (5 + p) kept_front) raw (frame_at s.front)
-    (le-leb (length raw.payload) most_message (omega (arith, long, h)) ∙ sym (le-leb (5 + p) kept_front h)) same)
-    (cases_lt kept_front (5 + p))
-
 -- behind a whole frame the next begins
 pub step_next : (at taken : ℕ) (front new before piece : List ℕ) (count : ℕ) → IsStep at taken front new before piece count
     → is_long new (taken - at + count) ≡ false → 5 + promised new ≤ taken - at + count
@@ -227,8 +197,6 @@ step_next at taken front new before piece count step short enough =
     let whole : taken + count - at ≡ 5 + promised new = omega (arith, have, enough, step.counts.whole short) in
     let r = reached_whole s (before ++ take count piece) (omega (arith, step.begun)) stands (ap (is_long new) have ∙ short) whole in
     stands_next (taken + count) new (before ++ take count piece) stands.fits stands.count r.bad
-    (kept_told (before ++ take count piece) (frames_of (take at (before ++ take count piece))) (frame_at (drop at (before ++ take count piece))) r.bad r.frames
-    ∙ frame_same s (before ++ take count piece) stands whole)
 
 -- a push that ended a frame
 pub push_frame : (at taken : ℕ) (front new before piece : List ℕ) (count : ℕ) → IsStep at taken front new before piece count
