@@ -76,18 +76,14 @@ head_is State text e = head_of state_kind state_payload text e
 -- where all tests are passed, what is behind them is answered
 tests_hold : (none a b : Bool) (empty wrong : FrameError) (read : Result Raw FrameError) → none ≡ false → a ≡ true → b ≡ true
     → cond none (Err empty) (cond (a && b) read (Err wrong)) ≡ read
-tests_hold true a b empty wrong read p q r = absurd cc
-tests_hold false false b empty wrong read p q r = absurd cc
-tests_hold false true false empty wrong read p q r = absurd cc
 tests_hold false true true empty wrong read p q r = refl
+tests_hold none a b empty wrong read p q r = absurd cc
 
 -- where a frame is answered, all tests were passed
 pub tests_held : (none a b : Bool) (empty wrong : FrameError) (read : Result Raw FrameError) (f : Raw)
     → cond none (Err empty) (cond (a && b) read (Err wrong)) ≡ Ok f → (b ≡ true) × (read ≡ Ok f)
-tests_held true a b empty wrong read f e = absurd cc
-tests_held false false b empty wrong read f e = absurd cc
 tests_held false true true empty wrong read f e = (refl, e)
-tests_held false true false empty wrong read f e = absurd cc
+tests_held none a b empty wrong read f e = absurd cc
 
 -- bytes that have a first one are not none
 some_bytes : (byte : ℕ) (rest : List ℕ) → eqb (length (byte ∷ rest)) 0 ≡ false

@@ -12,16 +12,9 @@ use Rattle.frame_payloads.specs.Payloads.{max_payload}
 use Rattle.da_wire.specs.Reading.{Raw, promised, raw_of, is_kind, kind_at, value_of_kind, value_at, is_among, tested_raw}
 use Rattle.da_wire.specs.Writing.{kind_of}
 use Rattle.frame_payloads.proofs.Fields.Readers.{bind_some, map_some}
-use Rattle.da_wire.proofs.RawLemmas.{tests_failed, frame_at}
+use Rattle.da_wire.proofs.RawLemmas.{raw_first}
 use Rattle.da_wire.proofs.FrameLemmas.{tests_held}
 use Rattle.da_wire.proofs.kinds.Forms.{kind_takes}
-
--- the kind of a frame is its first byte
-raw_first : (at : ℕ) (bytes : List ℕ) (f : Raw) → raw_of at bytes ≡ Ok f → slice_index bytes 0 ≡ f.kind
-unfolding raw_of
-raw_first at bytes f e =
-    let t = tests_failed (ltb (length bytes) 5) (ltb max_payload (promised bytes)) (ltb (length bytes) (5 + promised bytes)) (Truncated at) (TooLong at) (Truncated at) (frame_at bytes) f e in
-    ap (λ (g : Raw). g.kind) t.3
 
 -- a frame that is read behind a test of its kind is of a kind that passes
 pub tested_kind : (test : ℕ → Bool) (at : ℕ) (bytes : List ℕ) (f : Raw) → tested_raw test at bytes ≡ Ok f → test f.kind ≡ true

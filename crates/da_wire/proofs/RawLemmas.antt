@@ -1,6 +1,7 @@
 -- A frame that is read is what the bytes at the front spell, and a frame that was written is read.
-use Rattle.std.proofs.Common.{◌≡◌, ◌∙◌, ℕ, zero, suc, ◌+◌, ◌<◌, ◌≤◌, Bool, true, false, ltb, cond, List, [], ◌∷◌, ◌++◌, length, take, drop, Some, Result, Ok, Err, refl, sym, ap, ap₂, subst, arith, length-take-le, ltb-false, le-ltb, lt-ltb, get_or}
+use Rattle.std.proofs.Common.{◌≡◌, ◌∙◌, ℕ, zero, suc, ◌+◌, ◌<◌, ◌≤◌, Bool, false, cond, List, [], ◌∷◌, ◌++◌, length, take, drop, Some, Result, Ok, Err, refl, sym, ap, ap₂, subst, arith, length-take-le, ltb-false, le-ltb, lt-ltb, get_or}
 use Rattle.std.specs.Int.{w32, to_be_bytes, from_be_bytes}
+use Rattle.std.specs.Prelude.{slice_index}
 use Rattle.std.proofs.lemmas.List.{take_at, take-append-drop, length-append, length-drop, take-take, take-append-le, drop-append-le}
 use Rattle.std.proofs.lemmas.Option.{same_Some}
 use Rattle.std.proofs.Math.Seq.{take-nil}
@@ -24,18 +25,40 @@ ok_some (Err why) x e = absurd cc
 -- where a frame is answered, none of the three refusals held
 pub tests_failed : {A E : Type 0} (a b c : Bool) (x y z : E) (w v : A) → ◌≡◌ {A = Result A E} (cond a (Err x) (cond b (Err y) (cond c (Err z) (Ok w)))) (Ok v)
     → (a ≡ false) × (b ≡ false) × (c ≡ false) × (w ≡ v)
-tests_failed true b c x y z w v e = absurd cc
-tests_failed false true c x y z w v e = absurd cc
-tests_failed false false true x y z w v e = absurd cc
 tests_failed false false false x y z w v e = (refl, refl, refl, cc)
+tests_failed a b c x y z w v e = absurd cc
 
--- where none of the three refusals holds, the frame is answered
-tests_fail : {A E : Type 0} (a b c : Bool) (x y z : E) (w : A) → a ≡ false → b ≡ false → c ≡ false
-    → ◌≡◌ {A = Result A E} (cond a (Err x) (cond b (Err y) (cond c (Err z) (Ok w)))) (Ok w)
-tests_fail true b c x y z w p q r = absurd cc
-tests_fail false true c x y z w p q r = absurd cc
-tests_fail false false true x y z w p q r = absurd cc
-tests_fail false false false x y z w p q r = refl
+-- fewer than five bytes are no frame
+pub raw_short : (at : ℕ) (bytes : List ℕ) → length bytes < 5 → raw_of at bytes ≡ Err (Truncated at)
+unfolding raw_of
+raw_short at bytes h = rw (lt-ltb (length bytes) 5 h) refl
+
+-- a length above the limit is none
+pub raw_long : (at : ℕ) (bytes : List ℕ) → 5 ≤ length bytes → max_payload < promised bytes → raw_of at bytes ≡ Err (TooLong at)
+unfolding raw_of
+raw_long at bytes h k = rw (le-ltb (length bytes) 5 h, lt-ltb max_payload (promised bytes) k) refl
+
+-- a payload that isn't all there is none
+pub raw_cut : (at : ℕ) (bytes : List ℕ) → 5 ≤ length bytes → promised bytes ≤ max_payload → length bytes < 5 + promised bytes → raw_of at bytes ≡ Err (Truncated at)
+unfolding raw_of
+raw_cut at bytes h k l = rw (le-ltb (length bytes) 5 h, le-ltb max_payload (promised bytes) k, lt-ltb (length bytes) (5 + promised bytes) l) refl
+
+-- the frame that the bytes at the front are
+abbrev pub frame_at : List ℕ → Raw
+frame_at bytes = record { kind = get_or bytes 0 0; payload = take (promised bytes) (drop 5 bytes); size = 5 + promised bytes }
+
+-- bytes that hold the payload that their head states are a frame, whatever follows
+pub raw_whole : (at : ℕ) (bytes : List ℕ) → promised bytes ≤ max_payload → 5 + promised bytes ≤ length bytes → raw_of at bytes ≡ Ok (frame_at bytes)
+unfolding raw_of
+raw_whole at bytes k l =
+    rw (le-ltb (length bytes) 5 (omega (arith, l)), le-ltb max_payload (promised bytes) k, le-ltb (length bytes) (5 + promised bytes) l) refl
+
+-- and no other bytes are one
+raw_is : (at : ℕ) (bytes : List ℕ) (f : Raw) → raw_of at bytes ≡ Ok f → (promised bytes ≤ max_payload) × (5 + promised bytes ≤ length bytes) × (frame_at bytes ≡ f)
+unfolding raw_of
+raw_is at bytes f e =
+    let t = tests_failed _ _ _ _ _ _ _ f e in
+    (ltb-false _ _ t.1, ltb-false _ _ t.2, t.3)
 
 -- ---- written
 
@@ -55,16 +78,11 @@ length-frame kind payload =
 
 -- a frame whose payload is within the limit is read, whatever follows it
 pub raw_again : (at kind : ℕ) (payload rest : List ℕ) → length payload ≤ max_payload → raw_of at (frame kind payload ++ rest) ≡ Ok (framed kind payload)
-unfolding raw_of
 raw_again at kind payload rest few =
     let bytes : List ℕ = frame kind payload ++ rest in
     let size : promised bytes ≡ length payload = wide32.again (length payload) (omega (arith, few)) in
     let len : length bytes ≡ 5 + length payload + length rest = omega (arith, length-append (frame kind payload) rest, length-frame kind payload) in
-    let five : ltb (length bytes) 5 ≡ false = le-ltb _ _ (omega (arith, len)) in
-    let within : ltb max_payload (promised bytes) ≡ false = le-ltb _ _ (omega (arith, size, few)) in
-    let there : ltb (length bytes) (5 + promised bytes) ≡ false = le-ltb _ _ (omega (arith, size, len)) in
-    tests_fail (ltb (length bytes) 5) (ltb max_payload (promised bytes)) (ltb (length bytes) (5 + promised bytes)) (Truncated at) (TooLong at) (Truncated at)
-    (raw kind (promised bytes) (payload ++ rest)) five within there
+    raw_whole at bytes (omega (arith, size, few)) (omega (arith, size, len))
     ∙ ap (λ (n : ℕ). Ok (raw kind n (payload ++ rest))) size
     ∙ ap (λ (l : List ℕ). Ok (record { kind = kind; payload = l; size = 5 + length payload })) (take_at payload rest (length payload) refl)
 
@@ -109,33 +127,16 @@ raw_front kind after n fits few long is =
 
 -- bytes at whose front a frame of any kind is read begin with its bytes
 pub raw_takes : (at : ℕ) (bytes : List ℕ) (f : Raw) → AreBytes bytes → raw_of at bytes ≡ Ok f → IsRawFront bytes f
-unfolding raw_of
-raw_takes at [] f fits e =
-    let t = tests_failed (ltb 0 5) (ltb max_payload (promised [])) (ltb 0 (5 + promised [])) (Truncated at) (TooLong at) (Truncated at) (record { kind = 0; payload = take (promised []) []; size = 5 + promised [] }) f e in
-    absurd cc
+raw_takes at [] f fits e = let long = (raw_is at [] f e).1 in absurd (omega (arith, long))
 raw_takes at (kind ∷ after) f fits e =
-    let bytes : List ℕ = kind ∷ after in
-    let n : ℕ = promised bytes in
-    let t = tests_failed (ltb (length bytes) 5) (ltb max_payload n) (ltb (length bytes) (5 + n)) (Truncated at) (TooLong at) (Truncated at) (raw kind n (drop 4 after)) f e in
-    subst (λ (g : Raw). IsRawFront bytes g) t.3 (raw_front kind after n fits (ltb-false _ _ t.1) (ltb-false _ _ t.2) refl)
+    let r = raw_is at (kind ∷ after) f e in
+    subst (λ (g : Raw). IsRawFront (kind ∷ after) g) r.2 (raw_front kind after (promised (kind ∷ after)) fits r.0 r.1 refl)
+
+-- the kind of a frame is its first byte
+pub raw_first : (at : ℕ) (bytes : List ℕ) (f : Raw) → raw_of at bytes ≡ Ok f → slice_index bytes 0 ≡ f.kind
+raw_first at bytes f e = ap (λ (g : Raw). g.kind) (raw_is at bytes f e).2
 
 -- ---- bytes after a frame, and bytes that are none
-
--- the first refusal that holds is answered
-first_test : {A E : Type 0} (a b c : Bool) (x y z : E) (w : A) → a ≡ true → ◌≡◌ {A = Result A E} (cond a (Err x) (cond b (Err y) (cond c (Err z) (Ok w)))) (Err x)
-first_test true b c x y z w p = refl
-first_test false b c x y z w p = absurd cc
-
-second_test : {A E : Type 0} (a b c : Bool) (x y z : E) (w : A) → a ≡ false → b ≡ true → ◌≡◌ {A = Result A E} (cond a (Err x) (cond b (Err y) (cond c (Err z) (Ok w)))) (Err y)
-second_test false true c x y z w p q = refl
-second_test true b c x y z w p q = absurd cc
-second_test false false c x y z w p q = absurd cc
-
-third_test : {A E : Type 0} (a b c : Bool) (x y z : E) (w : A) → a ≡ false → b ≡ false → c ≡ true → ◌≡◌ {A = Result A E} (cond a (Err x) (cond b (Err y) (cond c (Err z) (Ok w)))) (Err z)
-third_test false false true x y z w p q r = refl
-third_test true b c x y z w p q r = absurd cc
-third_test false true c x y z w p q r = absurd cc
-third_test false false false x y z w p q r = absurd cc
 
 -- the length that a head states is that of any front of five bytes
 pub promised-take : (n : ℕ) (bytes : List ℕ) → 5 ≤ n → promised (take n bytes) ≡ promised bytes
@@ -147,31 +148,6 @@ promised-take (suc n) (b ∷ bytes) h = ap (from_be_bytes w32) (take-take 4 n by
 pub promised-append : (bytes more : List ℕ) → 5 ≤ length bytes → promised (bytes ++ more) ≡ promised bytes
 promised-append [] more h = absurd (omega arith)
 promised-append (b ∷ bytes) more h = ap (from_be_bytes w32) (take-append-le 4 bytes more (omega arith))
-
--- fewer than five bytes are no frame
-pub raw_short : (at : ℕ) (bytes : List ℕ) → length bytes < 5 → raw_of at bytes ≡ Err (Truncated at)
-unfolding raw_of
-raw_short at bytes h = first_test (ltb (length bytes) 5) _ _ (Truncated at) (TooLong at) (Truncated at) _ (lt-ltb _ _ h)
-
--- a length above the limit is none
-pub raw_long : (at : ℕ) (bytes : List ℕ) → 5 ≤ length bytes → max_payload < promised bytes → raw_of at bytes ≡ Err (TooLong at)
-unfolding raw_of
-raw_long at bytes h k = second_test (ltb (length bytes) 5) (ltb max_payload (promised bytes)) _ (Truncated at) (TooLong at) (Truncated at) _ (le-ltb _ _ h) (lt-ltb _ _ k)
-
--- a payload that isn't all there is none
-pub raw_cut : (at : ℕ) (bytes : List ℕ) → 5 ≤ length bytes → promised bytes ≤ max_payload → length bytes < 5 + promised bytes → raw_of at bytes ≡ Err (Truncated at)
-unfolding raw_of
-raw_cut at bytes h k l = third_test (ltb (length bytes) 5) (ltb max_payload (promised bytes)) (ltb (length bytes) (5 + promised bytes)) (Truncated at) (TooLong at) (Truncated at) _ (le-ltb _ _ h) (le-ltb _ _ k) (lt-ltb _ _ l)
-
--- the frame that the bytes at the front are
-abbrev pub frame_at : List ℕ → Raw
-frame_at bytes = record { kind = get_or bytes 0 0; payload = take (promised bytes) (drop 5 bytes); size = 5 + promised bytes }
-
--- bytes that hold the payload that their head states are a frame, whatever follows
-pub raw_whole : (at : ℕ) (bytes : List ℕ) → promised bytes ≤ max_payload → 5 + promised bytes ≤ length bytes → raw_of at bytes ≡ Ok (frame_at bytes)
-unfolding raw_of
-raw_whole at bytes k l = tests_fail (ltb (length bytes) 5) (ltb max_payload (promised bytes)) (ltb (length bytes) (5 + promised bytes)) (Truncated at) (TooLong at) (Truncated at) _
-    (le-ltb _ _ (omega (arith, l))) (le-ltb _ _ k) (le-ltb _ _ l)
 
 -- the first bytes of all are the frame at the front
 frame_at-append : (bytes more : List ℕ) → 5 + promised bytes ≤ length bytes → frame_at (bytes ++ more) ≡ frame_at bytes
@@ -186,14 +162,11 @@ frame_at-append (b ∷ bytes) more h =
 
 -- a frame is found whatever bytes follow, and within the bytes
 pub raw_of-append : (at : ℕ) (bytes more : List ℕ) (f : Raw) → raw_of at bytes ≡ Ok f → (raw_of at (bytes ++ more) ≡ Ok f) × (f.size ≤ length bytes)
-unfolding raw_of
 raw_of-append at bytes more f e =
-    let t = tests_failed (ltb (length bytes) 5) (ltb max_payload (promised bytes)) (ltb (length bytes) (5 + promised bytes)) (Truncated at) (TooLong at) (Truncated at) (frame_at bytes) f e in
-    let within : promised bytes ≤ max_payload = ltb-false _ _ t.1 in
-    let there : 5 + promised bytes ≤ length bytes = ltb-false _ _ t.2 in
-    let same : promised (bytes ++ more) ≡ promised bytes = promised-append bytes more (omega (arith, there)) in
-    let size : f.size ≡ 5 + promised bytes = ap (λ (g : Raw). g.size) (sym t.3) in (
-      raw_whole at (bytes ++ more) (omega (arith, same, within)) (omega (arith, same, there, length-append bytes more))
-          ∙ ap (λ (g : Raw). Ok g) (frame_at-append bytes more there ∙ t.3),
-      omega (arith, there, size),
+    let r = raw_is at bytes f e in
+    let same : promised (bytes ++ more) ≡ promised bytes = promised-append bytes more (omega (arith, r.1)) in
+    let size : f.size ≡ 5 + promised bytes = ap (λ (g : Raw). g.size) (sym r.2) in (
+      raw_whole at (bytes ++ more) (omega (arith, same, r.0)) (omega (arith, same, r.1, length-append bytes more))
+          ∙ ap (λ (g : Raw). Ok g) (frame_at-append bytes more r.1 ∙ r.2),
+      omega (arith, r.1, size),
     )
