@@ -7,69 +7,22 @@ use Rattle.std.proofs.lemmas.List.{length-append, nil_from_length, drop_at}
 use Rattle.std.proofs.lemmas.Option.{same_Some, some_pair_parts}
 use Rattle.namespace_id.specs.Bytes.{AreBytes}
 use Rattle.da_wire.specs.declared.frames.Frame.{Frame}
-use Rattle.da_wire.specs.declared.frames.Frame.TheVariants.{Header, Square, Message, Names, Fraud, Missing, Clash, Sample, Request, Block, Commit, Rooted, Transactions, Refusal, State}
 use Rattle.da_wire.specs.declared.frames.FrameError.{FrameError}
 use Rattle.da_wire.specs.declared.frames.FrameError.TheVariants.{Truncated, BadKind}
-use Rattle.da_wire.specs.Spelling.{frame, spelled, spelling, IsFrame, header_kind, square_kind, message_kind, names_kind, fraud_kind, missing_kind, clash_kind, sample_kind, request_kind, block_kind, commit_kind, rooted_kind, transactions_kind, refusal_kind, state_kind}
+use Rattle.da_wire.specs.Spelling.{frame, spelled, spelling, IsFrame}
 use Rattle.frame_payloads.specs.Payloads.{max_payload}
-use Rattle.frame_payloads.specs.kinds.Block.{asks_for_zero, block_payload}
-use Rattle.frame_payloads.specs.kinds.Header.{header_payload}
-use Rattle.frame_payloads.specs.kinds.Square.{square_payload}
-use Rattle.frame_payloads.specs.kinds.Message.{message_payload}
-use Rattle.frame_payloads.specs.kinds.Names.{names_payload, is_long_answer}
-use Rattle.frame_payloads.specs.kinds.Fraud.{fraud_payload, is_unwritten}
-use Rattle.frame_payloads.specs.kinds.Missing.{missing_payload}
-use Rattle.frame_payloads.specs.kinds.Clash.{has_empty, clash_payload}
-use Rattle.frame_payloads.specs.kinds.Requests.{sample_payload, request_payload}
-use Rattle.frame_payloads.specs.kinds.Commit.{is_long_commit, commit_payload}
-use Rattle.frame_payloads.specs.kinds.Rooted.{rooted_payload}
-use Rattle.frame_payloads.specs.kinds.Transactions.{transactions_payload}
-use Rattle.frame_payloads.specs.kinds.Refusal.{refusal_payload}
-use Rattle.frame_payloads.specs.kinds.State.{state_payload}
 use Rattle.da_wire.specs.Reading.{Raw, raw_of, is_kind, value_at, valued, value_of, tested_raw, tested_frame, frame_of}
 use Rattle.da_wire.specs.Frames.{ok_of}
 use Rattle.da_wire.specs.Writing.{kind_of, AppendsSpelling, IsReadBack, appended}
 use Rattle.da_wire.specs.Laws.{SpelledIsRead, ReadIsSpelled, OneSpelling, IsSpelledFront}
 use Rattle.frame_payloads.proofs.Fields.Readers.{if_false}
-use Rattle.da_wire.proofs.RawLemmas.{length-frame, raw_again, raw_takes}
+use Rattle.da_wire.proofs.RawLemmas.{length-frame, raw_again, raw_takes, raw_first}
 use Rattle.da_wire.proofs.kinds.Form.{IsWritten}
-use Rattle.da_wire.proofs.kinds.Forms.{value_takes, value_again}
+use Rattle.da_wire.proofs.kinds.Forms.{value_kind, value_takes, value_again}
 
 -- what reading a frame gives: a value and the offset after it, or a refusal
 abbrev pub Answer : Type 0
 Answer = Result (Frame × ℕ) FrameError
-
--- ---- the kind is the first byte of a spelling
-
--- a spelling begins with the byte of its kind
-head_of : (kind : ℕ) (payload text : List ℕ) → spelled kind payload ≡ Some text → slice_index text 0 ≡ kind
-head_of kind payload text e =
-    let g = if_false (ltb max_payload (length payload)) (Some (frame kind payload)) text e in
-    ap (λ (l : List ℕ). slice_index l 0) (sym (same_Some (frame kind payload) text g.1))
-
--- a spelling begins with the byte of the kind of its value
-head_is : (value : Frame) (text : List ℕ) → spelling value ≡ Some text → slice_index text 0 ≡ kind_of value
-head_is (Header h) text e = head_of header_kind (header_payload h) text e
-head_is (Square s) text e = head_of square_kind (square_payload s) text e
-head_is (Message m) text e = head_of message_kind (message_payload m) text e
-head_is (Names name answer) text e =
-    head_of names_kind (names_payload name answer) text (if_false (is_long_answer answer) (spelled names_kind (names_payload name answer)) text e).1
-head_is (Fraud claim) text e =
-    head_of fraud_kind (fraud_payload claim) text (if_false (is_unwritten claim) (spelled fraud_kind (fraud_payload claim)) text e).1
-head_is (Missing cells) text e =
-    head_of missing_kind (missing_payload cells) text (if_false (eqb (length cells.list) 0) (spelled missing_kind (missing_payload cells)) text e).1
-head_is (Clash clash) text e =
-    head_of clash_kind (clash_payload clash) text (if_false (has_empty clash) (spelled clash_kind (clash_payload clash)) text e).1
-head_is (Sample cell axis) text e = head_of sample_kind (sample_payload cell axis) text e
-head_is (Request name) text e = head_of request_kind (request_payload name) text e
-head_is (Block b) text e =
-    head_of block_kind (block_payload b) text (if_false (asks_for_zero b.width) (spelled block_kind (block_payload b)) text e).1
-head_is (Commit proof) text e =
-    head_of commit_kind (commit_payload proof) text (if_false (is_long_commit proof) (spelled commit_kind (commit_payload proof)) text e).1
-head_is (Rooted proof) text e = head_of rooted_kind (rooted_payload proof) text e
-head_is (Transactions units) text e = head_of transactions_kind (transactions_payload units) text e
-head_is (Refusal refusal) text e = head_of refusal_kind (refusal_payload refusal) text e
-head_is State text e = head_of state_kind state_payload text e
 
 -- ---- the two tests before a frame is read
 
@@ -115,7 +68,7 @@ pub tested_read : (test : ℕ → Bool) (value : Frame) (text rest : List ℕ) (
     → tested_frame test at (text ++ rest) ≡ Ok (value, at + length text)
 tested_read test value text rest at passes is e =
     let w : IsWritten value text = value_again value text is e in
-    let head : w.kind ≡ kind_of value = ap (λ (l : List ℕ). slice_index l 0) w.text_is ∙ head_is value text e in
+    let head : w.kind ≡ kind_of value = sym (value_kind w.kind w.payload value w.read) in
     subst (λ (l : List ℕ). tested_frame test at (l ++ rest) ≡ Ok (value, at + length l)) w.text_is
     (tested_frame_read test at w.kind w.payload rest value w.kind_is (ap test head ∙ passes) w.few w.read)
 
@@ -173,7 +126,7 @@ tested_spelled test value at next bytes fits e =
     let text : List ℕ = frame f.kind f.payload in
     let within : ltb max_payload (length f.payload) ≡ false = le-ltb _ _ t.is.payload in
     let is : spelling value ≡ Some text = v.1 ∙ ap (λ (b : Bool). cond b None (Some text)) within in
-    let first : kind ≡ kind_of value = ap (λ (l : List ℕ). slice_index l 0) t.parts ∙ head_is value text is in (
+    let first : kind ≡ kind_of value = raw_first at bytes f h.1 ∙ sym (value_kind f.kind f.payload value r.2) in (
       record {
         text = text;
         rest = t.rest;

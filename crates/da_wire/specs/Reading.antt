@@ -1,6 +1,6 @@
 -- What is read of the front of bytes: the kind, the frame, its value, or the first refusal
 -- (docs/FORMATS.md).
-use Rattle.std.specs.Prelude.{ℕ, List, length, take, drop, nat_lt, Option, Some, None, if◌then◌else◌, ◌≡◌, ◌⊎◌, ◌+◌, slice_index, ◌==◌, ◌&&◌, Bool, true, false, Result, Ok, Err, IsOk}
+use Rattle.std.specs.Prelude.{ℕ, List, [], ◌∷◌, length, take, drop, nat_lt, Option, Some, None, if◌then◌else◌, ◌≡◌, ◌⊎◌, ◌+◌, slice_index, ◌==◌, ◌&&◌, Bool, true, false, Result, Ok, Err, IsOk}
 use Rattle.std.specs.Option.{option_map, option_map_or}
 use Rattle.std.specs.Int.{w32, from_be_bytes}
 use Rattle.std.specs.List.{list_any}
@@ -12,7 +12,7 @@ use Rattle.da_wire.specs.declared.frames.Frame.TheVariants.{Header, Square, Mess
 use Rattle.da_wire.specs.declared.frames.RawFrame.{RawFrame}
 use Rattle.da_wire.specs.declared.frames.FrameError.{FrameError}
 use Rattle.da_wire.specs.declared.frames.FrameError.TheVariants.{Truncated, BadKind, TooLong, BadPayload, Trailing}
-use Rattle.da_wire.specs.Spelling.{header_kind, square_kind, message_kind, names_kind, fraud_kind, missing_kind, clash_kind, sample_kind, request_kind, block_kind, commit_kind, rooted_kind, transactions_kind, refusal_kind, state_kind}
+use Rattle.da_wire.specs.Spelling.{kind_byte}
 use Rattle.frame_payloads.specs.Payloads.{max_payload}
 use Rattle.frame_payloads.specs.kinds.Header.{header_at}
 use Rattle.frame_payloads.specs.kinds.Square.{square_at}
@@ -31,24 +31,21 @@ use Rattle.frame_payloads.specs.kinds.State.{state_at}
 
 -- ---- kinds
 
+-- the kinds of which there are values
+abbrev pub all_kinds : List Kind
+all_kinds =
+    kinds.Header ∷ kinds.Square ∷ kinds.Message ∷ kinds.Names ∷ kinds.Fraud ∷ kinds.Missing ∷ kinds.Clash
+    ∷ kinds.Sample ∷ kinds.Request ∷ kinds.Block ∷ kinds.Commit ∷ kinds.Rooted ∷ kinds.Transactions
+    ∷ kinds.Refusal ∷ kinds.State ∷ []
+
+-- the one among some kinds that a byte is
+abbrev pub kind_among : List Kind → ℕ → Option Kind
+kind_among [] byte = None
+kind_among (kind ∷ others) byte = if byte == kind_byte kind then Some kind else kind_among others byte
+
 -- the kind that a byte is
 abbrev pub kind_at : ℕ → Option Kind
-kind_at byte =
-    if byte == header_kind then Some kinds.Header else
-    (if byte == square_kind then Some kinds.Square else
-    (if byte == message_kind then Some kinds.Message else
-    (if byte == names_kind then Some kinds.Names else
-    (if byte == fraud_kind then Some kinds.Fraud else
-    (if byte == missing_kind then Some kinds.Missing else
-    (if byte == clash_kind then Some kinds.Clash else
-    (if byte == sample_kind then Some kinds.Sample else
-    (if byte == request_kind then Some kinds.Request else
-    (if byte == block_kind then Some kinds.Block else
-    (if byte == commit_kind then Some kinds.Commit else
-    (if byte == rooted_kind then Some kinds.Rooted else
-    (if byte == transactions_kind then Some kinds.Transactions else
-    (if byte == refusal_kind then Some kinds.Refusal else
-    (if byte == state_kind then Some kinds.State else None))))))))))))))
+kind_at byte = kind_among all_kinds byte
 
 -- whether there are values of this kind
 abbrev pub is_kind : ℕ → Bool

@@ -1,7 +1,6 @@
 //! The kinds of frames.
 
 ghost use Rattle.std.specs.Prelude.{◌≡◌};
-ghost use Rattle.da_wire.specs.Spelling.{kind_byte};
 ghost use Rattle.da_wire.specs.Reading.{kind_at};
 
 /// The kinds of which there are values.
@@ -46,29 +45,6 @@ impl Kind {
             b'E' => Some(Kind::Refusal),
             b'A' => Some(Kind::State),
             _ => None,
-        }
-    }
-
-    /// The byte that a kind is.
-    pub(crate) fn byte(self) -> u8
-        ensures { result ≡ kind_byte self }
-    {
-        match self {
-            Kind::Header => b'H',
-            Kind::Square => b'S',
-            Kind::Message => b'M',
-            Kind::Names => b'N',
-            Kind::Fraud => b'B',
-            Kind::Missing => b'K',
-            Kind::Clash => b'X',
-            Kind::Sample => b'Q',
-            Kind::Request => b'P',
-            Kind::Block => b'V',
-            Kind::Commit => b'C',
-            Kind::Rooted => b'R',
-            Kind::Transactions => b'T',
-            Kind::Refusal => b'E',
-            Kind::State => b'A',
         }
     }
 }

@@ -2,14 +2,13 @@
 
 ghost use Rattle.std.specs.Prelude.{◌≡◌, length, None, ◌+◌, ◌++◌, ◌↔◌, OnOk, OnErr, IsErrOf, IsSome};
 ghost use Rattle.namespace_id.specs.Answers.{HasRoom};
-ghost use Rattle.da_wire.specs.Spelling.{kind_byte, spelling};
+ghost use Rattle.da_wire.specs.Spelling.{spelling};
 ghost use Rattle.da_wire.specs.declared.frames.Frame.TheVariants as FrameOf;
 ghost use Rattle.da_wire.specs.Writing.{kind_of, payload_of, HasSize, AppendsSpelling, IsReadBack, appended};
 ghost use Rattle.frame_payloads.specs.Payloads.{IsShort};
 
 use crate::bounds::frame_law;
 use crate::frames::HEAD_SIZE;
-use crate::kinds::Kind;
 use crate::{Frame, SpellError};
 use axis_roots::FraudProof;
 use frame_payloads::{
@@ -21,26 +20,26 @@ use frame_payloads::{
 };
 use namespace_id::{NoMemory, append};
 
-/// The kind of a value.
-fn kind_of(frame: &Frame) -> Kind
-    ensures { kind_byte result ≡ kind_of frame.now }
+/// The byte of the kind of a value.
+fn kind_of(frame: &Frame) -> u8
+    ensures { result ≡ kind_of frame.now }
 {
     match frame {
-        Frame::Header(_) => Kind::Header,
-        Frame::Square(_) => Kind::Square,
-        Frame::Message(_) => Kind::Message,
-        Frame::Names(..) => Kind::Names,
-        Frame::Fraud(_) => Kind::Fraud,
-        Frame::Missing(_) => Kind::Missing,
-        Frame::Clash(_) => Kind::Clash,
-        Frame::Sample(..) => Kind::Sample,
-        Frame::Request(_) => Kind::Request,
-        Frame::Block(_) => Kind::Block,
-        Frame::Commit(_) => Kind::Commit,
-        Frame::Rooted(_) => Kind::Rooted,
-        Frame::Transactions(_) => Kind::Transactions,
-        Frame::Refusal(_) => Kind::Refusal,
-        Frame::State => Kind::State,
+        Frame::Header(_) => b'H',
+        Frame::Square(_) => b'S',
+        Frame::Message(_) => b'M',
+        Frame::Names(..) => b'N',
+        Frame::Fraud(_) => b'B',
+        Frame::Missing(_) => b'K',
+        Frame::Clash(_) => b'X',
+        Frame::Sample(..) => b'Q',
+        Frame::Request(_) => b'P',
+        Frame::Block(_) => b'V',
+        Frame::Commit(_) => b'C',
+        Frame::Rooted(_) => b'R',
+        Frame::Transactions(_) => b'T',
+        Frame::Refusal(_) => b'E',
+        Frame::State => b'A',
     }
 }
 
@@ -110,7 +109,7 @@ pub fn write_frame(frame: &Frame, out: &mut Vec<u8>) -> Result<(), SpellError>
     if out.reserve(HEAD_SIZE + size as usize).is_err() {
         return Err(SpellError::NoMemory);
     }
-    append(out, &[kind_of(frame).byte()]);
+    append(out, &[kind_of(frame)]);
     append(out, &size.to_be_bytes());
     put_payload(out, frame);
     frame_law(frame);
@@ -132,7 +131,7 @@ pub fn write_proof(proof: &FraudProof, out: &mut Vec<u8>) -> Result<(), NoMemory
     if out.reserve(HEAD_SIZE + size as usize).is_err() {
         return Err(NoMemory);
     }
-    append(out, &[Kind::Fraud.byte()]);
+    append(out, &[b'B']);
     append(out, &size.to_be_bytes());
     put_proof(out, proof);
     proof_law(proof);

@@ -1,6 +1,7 @@
 -- What is read of a payload of any kind is what the payload spells, and what is spelled is read.
-use Rattle.std.proofs.Common.{◌≡◌, ◌∙◌, ℕ, Bool, true, false, eqb, cond, List, Option, None, Some, refl, sym, ap, subst, eqb-true}
+use Rattle.std.proofs.Common.{◌≡◌, ◌∙◌, ℕ, Bool, true, false, eqb, cond, List, [], ◌∷◌, Option, Some, refl, sym, ap, subst, eqb-true}
 use Rattle.std.specs.Prelude.{⊤}
+use Rattle.std.specs.Option.{option_map}
 use Rattle.std.proofs.lemmas.Option.{same_Some}
 use Rattle.namespace_id.specs.declared.cells.Cell.{Cell}
 use Rattle.namespace_id.specs.declared.cells.Axis.{Axis}
@@ -12,8 +13,9 @@ use Rattle.da_wire.specs.declared.frames.Frame.TheVariants.{Header, Square, Mess
 use Rattle.da_wire.specs.declared.kinds.Kind.{Kind}
 use Rattle.da_wire.specs.declared.kinds.Kind.TheVariants as kinds
 use Rattle.da_wire.specs.Spelling.{kind_byte, spelled, spelling, IsFrame}
-use Rattle.da_wire.specs.Reading.{kind_at, value_of_kind, value_at}
-use Rattle.frame_payloads.proofs.Fields.Readers.{bind_some}
+use Rattle.da_wire.specs.Reading.{all_kinds, kind_among, kind_at, value_of_kind, value_at}
+use Rattle.da_wire.specs.Writing.{kind_of}
+use Rattle.frame_payloads.proofs.Fields.Readers.{bind_some, map_some}
 use Rattle.da_wire.proofs.kinds.Form.{Spells, IsWritten, form_takes, form_written}
 use Rattle.frame_payloads.proofs.Forms.HeaderForm.{header_form}
 use Rattle.frame_payloads.proofs.Forms.SquareForm.{square_form}
@@ -35,20 +37,7 @@ use Rattle.frame_payloads.proofs.Forms.StateForm.{state_form}
 -- the byte of each kind is read as the kind
 kind_again : (kind : Kind) → kind_at (kind_byte kind) ≡ Some kind
 kind_again kinds.Header = refl
-kind_again kinds.Square = refl
-kind_again kinds.Message = refl
-kind_again kinds.Names = refl
-kind_again kinds.Fraud = refl
-kind_again kinds.Missing = refl
-kind_again kinds.Clash = refl
-kind_again kinds.Sample = refl
-kind_again kinds.Request = refl
-kind_again kinds.Block = refl
-kind_again kinds.Commit = refl
-kind_again kinds.Rooted = refl
-kind_again kinds.Transactions = refl
-kind_again kinds.Refusal = refl
-kind_again kinds.State = refl
+kind_again kind = refl
 
 -- a byte is that of a kind, or it is looked for among the others
 by_byte : (here : Bool) (byte : ℕ) (kind found : Kind) (others : Option Kind) → eqb byte (kind_byte kind) ≡ here → cond here (Some kind) others ≡ Some found
@@ -56,24 +45,14 @@ by_byte : (here : Bool) (byte : ℕ) (kind found : Kind) (others : Option Kind) 
 by_byte true byte kind found others is e later = eqb-true byte (kind_byte kind) is ∙ ap (λ (k : Kind). kind_byte k) (same_Some kind found e)
 by_byte false byte kind found others is e later = later e
 
+-- a byte that is read as one of some kinds is that kind's byte
+among_takes : (among : List Kind) (byte : ℕ) (found : Kind) → kind_among among byte ≡ Some found → byte ≡ kind_byte found
+among_takes [] byte found e = absurd cc
+among_takes (kind ∷ others) byte found e = by_byte (eqb byte (kind_byte kind)) byte kind found (kind_among others byte) refl e (among_takes others byte found)
+
 -- a byte that is read as a kind is that kind's byte
-pub kind_takes : (byte : ℕ) (found : Kind) → kind_at byte ≡ Some found → byte ≡ kind_byte found
-kind_takes byte found e =
-    by_byte (eqb byte (kind_byte kinds.Header)) byte kinds.Header found _ refl e (λ e1.
-    by_byte (eqb byte (kind_byte kinds.Square)) byte kinds.Square found _ refl e1 (λ e2.
-    by_byte (eqb byte (kind_byte kinds.Message)) byte kinds.Message found _ refl e2 (λ e3.
-    by_byte (eqb byte (kind_byte kinds.Names)) byte kinds.Names found _ refl e3 (λ e4.
-    by_byte (eqb byte (kind_byte kinds.Fraud)) byte kinds.Fraud found _ refl e4 (λ e5.
-    by_byte (eqb byte (kind_byte kinds.Missing)) byte kinds.Missing found _ refl e5 (λ e6.
-    by_byte (eqb byte (kind_byte kinds.Clash)) byte kinds.Clash found _ refl e6 (λ e7.
-    by_byte (eqb byte (kind_byte kinds.Sample)) byte kinds.Sample found _ refl e7 (λ e8.
-    by_byte (eqb byte (kind_byte kinds.Request)) byte kinds.Request found _ refl e8 (λ e9.
-    by_byte (eqb byte (kind_byte kinds.Block)) byte kinds.Block found _ refl e9 (λ e10.
-    by_byte (eqb byte (kind_byte kinds.Commit)) byte kinds.Commit found _ refl e10 (λ e11.
-    by_byte (eqb byte (kind_byte kinds.Rooted)) byte kinds.Rooted found _ refl e11 (λ e12.
-    by_byte (eqb byte (kind_byte kinds.Transactions)) byte kinds.Transactions found _ refl e12 (λ e13.
-    by_byte (eqb byte (kind_byte kinds.Refusal)) byte kinds.Refusal found _ refl e13 (λ e14.
-    by_byte (eqb byte (kind_byte kinds.State)) byte kinds.State found None refl e14 (λ e15. absurd cc)))))))))))))))
+kind_takes : (byte : ℕ) (found : Kind) → kind_at byte ≡ Some found → byte ≡ kind_byte found
+kind_takes byte found e = among_takes all_kinds byte found e
 
 -- ---- values
 
@@ -105,6 +84,25 @@ spelled_by kinds.Rooted = form_takes kinds.Rooted Rooted _ _ _ rooted_form (λ b
 spelled_by kinds.Transactions = form_takes kinds.Transactions Transactions _ _ _ transactions_form (λ bytes. refl) (λ x. refl)
 spelled_by kinds.Refusal = form_takes kinds.Refusal Refusal _ _ _ refusal_form (λ bytes. refl) (λ x. refl)
 spelled_by kinds.State = form_takes kinds.State state_frame _ _ _ state_form (λ bytes. refl) (λ x. refl)
+
+-- the value behind a map is of the kind that all such values have
+made_kind : {A : Type 0} (made : A → Frame) (kind : ℕ) (o : Option A) (value : Frame) → ((a : A) → kind_of (made a) ≡ kind) → option_map made o ≡ Some value
+    → kind_of value ≡ kind
+made_kind made kind o value all e =
+    let m = map_some made o value e in
+    ap kind_of (sym m.2) ∙ all m.0
+
+-- the value that a payload of a kind holds is of this kind
+kind_value : (kind : Kind) (payload : List ℕ) (value : Frame) → value_of_kind kind payload ≡ Some value → kind_of value ≡ kind_byte kind
+kind_value kinds.Header payload value e = made_kind _ _ _ value (λ a. refl) e
+kind_value kind payload value e = made_kind _ _ _ value (λ a. refl) e
+
+-- the value that a payload of the kind that a byte is holds has this byte
+pub value_kind : (byte : ℕ) (payload : List ℕ) (value : Frame) → value_at byte payload ≡ Some value → kind_of value ≡ byte
+unfolding value_at
+value_kind byte payload value e =
+    let k = bind_some (kind_at byte) (λ (kind : Kind). value_of_kind kind payload) value e in
+    kind_value k.0 payload value k.2 ∙ sym (kind_takes byte k.0 k.1)
 
 -- a value that is read of a payload is what the payload spells
 pub value_takes : (byte : ℕ) (payload : List ℕ) (value : Frame) → AreBytes payload → value_at byte payload ≡ Some value
