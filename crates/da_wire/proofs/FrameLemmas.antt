@@ -13,11 +13,11 @@ use Rattle.da_wire.specs.Spelling.{frame, spelled, spelling, IsFrame}
 use Rattle.frame_payloads.specs.Payloads.{max_payload}
 use Rattle.da_wire.specs.Reading.{Raw, raw_of, is_kind, value_at, valued, value_of, tested_raw, tested_frame, frame_of}
 use Rattle.da_wire.specs.Frames.{ok_of}
-use Rattle.da_wire.specs.Writing.{kind_of, AppendsSpelling, IsReadBack, appended}
+use Rattle.da_wire.specs.Writing.{kind_of, payload_of, has_none, AppendsSpelling, IsReadBack, appended}
 use Rattle.da_wire.specs.Laws.{SpelledIsRead, ReadIsSpelled, OneSpelling, IsSpelledFront}
 use Rattle.frame_payloads.proofs.Fields.Readers.{if_false}
 use Rattle.da_wire.proofs.RawLemmas.{length-frame, raw_again, raw_takes, raw_first}
-use Rattle.da_wire.proofs.kinds.Form.{IsWritten}
+use Rattle.da_wire.proofs.kinds.Form.{IsWritten, spelling_is}
 use Rattle.da_wire.proofs.kinds.Forms.{value_kind, value_takes, value_again}
 
 -- what reading a frame gives: a value and the offset after it, or a refusal
@@ -58,10 +58,12 @@ tested_frame_read test at kind payload rest value kind_is passes few read =
     ∙ ap (λ (n : ℕ). Ok (value, at + n)) (sym (length-frame kind payload))
 
 -- a spelling has a byte
-pub spelled_some : (value : Frame) (text : List ℕ) → IsFrame value → spelling value ≡ Some text → 0 < length text
-spelled_some value text is e =
-    let w : IsWritten value text = value_again value text is e in
-    omega (arith, ap length w.text_is, length-frame w.kind w.payload)
+pub spelling_some : (value : Frame) (text : List ℕ) → spelling value ≡ Some text → 0 < length text
+spelling_some value text e =
+    let payload : List ℕ = payload_of value in
+    let n = if_false (has_none value) (spelled (kind_of value) payload) text (sym (spelling_is value) ∙ e) in
+    let g = if_false (ltb max_payload (length payload)) (Some (frame (kind_of value) payload)) text n.1 in
+    subst (λ (l : List ℕ). 0 < length l) (same_Some (frame (kind_of value) payload) text g.1) (omega arith)
 
 -- what was spelled is read where its kind passes the test
 pub tested_read : (test : ℕ → Bool) (value : Frame) (text rest : List ℕ) (at : ℕ) → test (kind_of value) ≡ true → IsFrame value → spelling value ≡ Some text

@@ -14,7 +14,7 @@ use Rattle.da_wire.specs.Frames.{ok_of}
 use Rattle.da_wire.specs.Values.{value_in, values_of, bad_value, text_of, IsValue}
 use Rattle.da_wire.specs.Laws.{ValuesAreTheFile, FilesAreValues, BadValueIsFirst, IsSpelledFront}
 use Rattle.da_wire.proofs.RawLemmas.{ok_some}
-use Rattle.da_wire.proofs.FrameLemmas.{Answer, spelled_some, tested_read, tested_spelled}
+use Rattle.da_wire.proofs.FrameLemmas.{Answer, spelling_some, tested_read, tested_spelled}
 use Rattle.da_wire.proofs.ListedLemmas.{IsFront, IsReader, walk_again, stop_none, walked, walked_all, walked_some}
 
 -- the text of what has a spelling
@@ -46,7 +46,7 @@ value_front kinds bytes value next fits e =
 
 -- a spelling has a byte
 text_some : (kinds : List ℕ) (value : Frame) → IsValue kinds value → 0 < length (text_of value)
-text_some kinds value is = spelled_some value (text_of value) is.is (text_is (spelling value) is.spelled)
+text_some kinds value is = spelling_some value (text_of value) (text_is (spelling value) is.spelled)
 
 -- values of these kinds are read one after another
 reader : (kinds : List ℕ) → IsReader Frame (value_in kinds) text_of (IsValue kinds)

@@ -1,5 +1,5 @@
 -- The two parts of a spelling: a value's kind and its payload.
-use Rattle.std.specs.Prelude.{◌≡◌, ℕ, List, ◌++◌, length, drop, Ok, Option, Some, None, MatchOption}
+use Rattle.std.specs.Prelude.{◌≡◌, ◌==◌, ℕ, Bool, false, List, ◌++◌, length, drop, Ok, Option, Some, None, MatchOption}
 use Rattle.da_wire.specs.declared.frames.Frame.{Frame}
 use Rattle.da_wire.specs.declared.frames.Frame.TheVariants.{Header, Square, Message, Names, Fraud, Missing, Clash, Sample, Request, Block, Commit, Rooted, Transactions, Refusal, State}
 use Rattle.da_wire.specs.Reading.{frame_of}
@@ -7,13 +7,13 @@ use Rattle.da_wire.specs.Spelling.{frame, spelling, header_kind, square_kind, me
 use Rattle.frame_payloads.specs.kinds.Header.{header_payload}
 use Rattle.frame_payloads.specs.kinds.Square.{square_payload}
 use Rattle.frame_payloads.specs.kinds.Message.{message_payload}
-use Rattle.frame_payloads.specs.kinds.Names.{names_payload}
-use Rattle.frame_payloads.specs.kinds.Fraud.{fraud_payload}
+use Rattle.frame_payloads.specs.kinds.Names.{names_payload, is_long_answer}
+use Rattle.frame_payloads.specs.kinds.Fraud.{fraud_payload, is_unwritten}
 use Rattle.frame_payloads.specs.kinds.Missing.{missing_payload}
-use Rattle.frame_payloads.specs.kinds.Clash.{clash_payload}
+use Rattle.frame_payloads.specs.kinds.Clash.{clash_payload, has_empty}
 use Rattle.frame_payloads.specs.kinds.Requests.{sample_payload, request_payload}
-use Rattle.frame_payloads.specs.kinds.Block.{block_payload}
-use Rattle.frame_payloads.specs.kinds.Commit.{commit_payload}
+use Rattle.frame_payloads.specs.kinds.Block.{block_payload, asks_for_zero}
+use Rattle.frame_payloads.specs.kinds.Commit.{commit_payload, is_long_commit}
 use Rattle.frame_payloads.specs.kinds.Rooted.{rooted_payload}
 use Rattle.frame_payloads.specs.kinds.Transactions.{transactions_payload}
 use Rattle.frame_payloads.specs.kinds.Refusal.{refusal_payload}
@@ -54,6 +54,16 @@ payload_of (Rooted proof) = rooted_payload proof
 payload_of (Transactions units) = transactions_payload units
 payload_of (Refusal refusal) = refusal_payload refusal
 payload_of State = state_payload
+
+-- whether a value has no spelling, however long its payload is
+abbrev pub has_none : Frame → Bool
+has_none (Names name answer) = is_long_answer answer
+has_none (Fraud claim) = is_unwritten claim
+has_none (Missing cells) = length cells.list == 0
+has_none (Clash clash) = has_empty clash
+has_none (Block b) = asks_for_zero b.width
+has_none (Commit proof) = is_long_commit proof
+has_none value = false
 
 -- the length of the payload of a value that has a spelling
 abbrev pub HasSize : Frame → Option ℕ → Type 0

@@ -4,8 +4,8 @@ ghost use Rattle.std.specs.Prelude.{◌≡◌, length, None, ◌+◌, ◌++◌, 
 ghost use Rattle.namespace_id.specs.Answers.{HasRoom};
 ghost use Rattle.da_wire.specs.Spelling.{spelling};
 ghost use Rattle.da_wire.specs.declared.frames.Frame.TheVariants as FrameOf;
-ghost use Rattle.da_wire.specs.Writing.{kind_of, payload_of, HasSize, AppendsSpelling, IsReadBack, appended};
-ghost use Rattle.frame_payloads.specs.Payloads.{IsShort};
+ghost use Rattle.da_wire.specs.Writing.{kind_of, payload_of, has_none, HasSize, AppendsSpelling, IsReadBack, appended};
+ghost use Rattle.frame_payloads.specs.Payloads.{IsShort, IsSize};
 
 use crate::bounds::frame_law;
 use crate::frames::HEAD_SIZE;
@@ -43,9 +43,9 @@ fn kind_of(frame: &Frame) -> u8
     }
 }
 
-/// The length of the payload of a value that has a spelling.
-fn payload_size(frame: &Frame) -> Option<u32>
-    ensures { HasSize frame.now result }
+/// The length of the payload that is written of a value, where one is.
+fn written_size(frame: &Frame) -> Option<u32>
+    ensures { IsSize (has_none frame.now) (payload_of frame.now) result }
 {
     match frame {
         Frame::Header(header) => Some(header_size(header)),
@@ -64,6 +64,13 @@ fn payload_size(frame: &Frame) -> Option<u32>
         Frame::Refusal(_) => Some(REFUSAL_SIZE),
         Frame::State => Some(0),
     }
+}
+
+/// The length of the payload of a value that has a spelling.
+fn payload_size(frame: &Frame) -> Option<u32>
+    ensures { HasSize frame.now result }
+{
+    written_size(frame)
 }
 
 /// Appends the payload of a value.

@@ -8,10 +8,11 @@ use Rattle.frame_payloads.specs.Payloads.{max_payload, written, IsSize}
 use Rattle.frame_payloads.proofs.Fields.Readers.{map_some, if_false}
 use Rattle.frame_payloads.proofs.Forms.Form.{IsForm}
 use Rattle.da_wire.specs.declared.frames.Frame.{Frame}
+use Rattle.da_wire.specs.declared.frames.Frame.TheVariants.{Header}
 use Rattle.da_wire.specs.declared.kinds.Kind.{Kind}
 use Rattle.da_wire.specs.Spelling.{kind_byte, frame, spelled, spelling, IsFrame}
 use Rattle.da_wire.specs.Reading.{kind_at, is_kind, value_of_kind, value_at}
-use Rattle.da_wire.specs.Writing.{HasSize, kind_of, payload_of}
+use Rattle.da_wire.specs.Writing.{HasSize, has_none, kind_of, payload_of}
 
 -- ---- payloads that are written
 
@@ -25,7 +26,7 @@ written_spelled kind unwritten payload e = by unwritten (ltb max_payload (length
     by false false e = refl
 
 -- one that isn't has none
-pub unwritten_unspelled : (kind : ℕ) (unwritten : Bool) (payload : List ℕ) → written unwritten payload ≡ None → cond unwritten None (spelled kind payload) ≡ None
+unwritten_unspelled : (kind : ℕ) (unwritten : Bool) (payload : List ℕ) → written unwritten payload ≡ None → cond unwritten None (spelled kind payload) ≡ None
 unwritten_unspelled kind unwritten payload e = by unwritten (ltb max_payload (length payload)) e
   where
     by : (a b : Bool) → cond a None (cond b None (Some payload)) ≡ None → cond a None (cond b None (Some (frame kind payload))) ≡ None
@@ -33,16 +34,15 @@ unwritten_unspelled kind unwritten payload e = by unwritten (ltb max_payload (le
     by false true e = refl
     by false false e = absurd cc
 
--- the length of the payload that is written is that of the value's spelling
-value_sized : (value : Frame) (unwritten : Bool) (size : Option ℕ) → spelling value ≡ cond unwritten None (spelled (kind_of value) (payload_of value))
-    → IsSize unwritten (payload_of value) size → HasSize value size
-value_sized value unwritten None same is = same ∙ unwritten_unspelled (kind_of value) unwritten (payload_of value) is
-value_sized value unwritten (Some n) same is = (is.0, same ∙ written_spelled (kind_of value) unwritten (payload_of value) is.1)
+-- a spelling is a kind and a payload behind one test
+pub spelling_is : (value : Frame) → spelling value ≡ cond (has_none value) None (spelled (kind_of value) (payload_of value))
+spelling_is (Header h) = refl
+spelling_is value = refl
 
--- and of a value that is this one
-pub size_spelled : (size : Option ℕ) (frame value : Frame) (unwritten : Bool) → frame ≡ value → spelling value ≡ cond unwritten None (spelled (kind_of value) (payload_of value))
-    → IsSize unwritten (payload_of value) size → HasSize frame size
-size_spelled size frame value unwritten is same told = subst (λ (f : Frame). HasSize f size) (sym is) (value_sized value unwritten size same told)
+-- the length of the payload that is written is that of the value's spelling
+pub value_sized : (value : Frame) (size : Option ℕ) → IsSize (has_none value) (payload_of value) size → HasSize value size
+value_sized value None is = spelling_is value ∙ unwritten_unspelled (kind_of value) (has_none value) (payload_of value) is
+value_sized value (Some n) is = (is.0, spelling_is value ∙ written_spelled (kind_of value) (has_none value) (payload_of value) is.1)
 
 -- ---- kinds
 
