@@ -1,3 +1,2 @@
 pub mod Form
-pub mod Spelled
 pub mod Forms

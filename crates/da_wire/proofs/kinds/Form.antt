@@ -1,16 +1,19 @@
 -- The laws of a kind of frames: what is read of a payload is what the payload spells, and what is spelled is read.
 use Rattle.std.proofs.Common.{◌≡◌, ◌∙◌, ℕ, ◌≤◌, Bool, true, false, cond, ltb, List, length, Option, Some, None, refl, sym, ap, subst, ltb-false}
+use Rattle.std.specs.Prelude.{◌↔◌, IsSome}
 use Rattle.std.specs.Option.{option_map, option_map_or}
 use Rattle.std.proofs.lemmas.Option.{same_Some}
 use Rattle.namespace_id.specs.Bytes.{AreBytes}
 use Rattle.frame_fields.specs.Fields.{◌>>=◌}
 use Rattle.frame_payloads.specs.Payloads.{max_payload, written, IsSize}
+use Rattle.frame_payloads.specs.kinds.Transactions.{transactions_payload}
 use Rattle.frame_payloads.proofs.Fields.Readers.{map_some, if_false}
+use Rattle.frame_payloads.proofs.Fields.Lengths.{written_within}
 use Rattle.frame_payloads.proofs.Forms.Form.{IsForm}
 use Rattle.da_wire.specs.declared.frames.Frame.{Frame}
-use Rattle.da_wire.specs.declared.frames.Frame.TheVariants.{Header}
+use Rattle.da_wire.specs.declared.frames.Frame.TheVariants.{Header, Transactions}
 use Rattle.da_wire.specs.declared.kinds.Kind.{Kind}
-use Rattle.da_wire.specs.Spelling.{kind_byte, frame, spelled, spelling, IsFrame}
+use Rattle.da_wire.specs.Spelling.{kind_byte, transactions_kind, frame, spelled, spelling, IsFrame}
 use Rattle.da_wire.specs.Reading.{kind_at, is_kind, value_of_kind, value_at}
 use Rattle.da_wire.specs.Writing.{HasSize, has_none, kind_of, payload_of}
 
@@ -43,6 +46,27 @@ spelling_is value = refl
 pub value_sized : (value : Frame) (size : Option ℕ) → IsSize (has_none value) (payload_of value) size → HasSize value size
 value_sized value None is = spelling_is value ∙ unwritten_unspelled (kind_of value) (has_none value) (payload_of value) is
 value_sized value (Some n) is = (is.0, spelling_is value ∙ written_spelled (kind_of value) (has_none value) (payload_of value) is.1)
+
+-- a payload that is written is that of some spelling
+pub spelled_when : (value : Frame) → written (has_none value) (payload_of value) ≡ Some (payload_of value) → IsSome (spelling value)
+spelled_when value e = subst IsSome (sym (spelling_is value ∙ written_spelled (kind_of value) (has_none value) (payload_of value) e)) refl
+
+-- a payload within the limit is, where its value can be written
+pub spelled_within : (value : Frame) → has_none value ≡ false → length (payload_of value) ≤ max_payload → IsSome (spelling value)
+spelled_within value can few = spelled_when value (written_within (has_none value) (length (payload_of value)) (payload_of value) can refl few)
+
+-- where there is a spelling behind a test, it isn't held
+not_held : (b : Bool) (text : List ℕ) → IsSome (cond b None (Some text)) → b ≡ false
+not_held true text some = absurd cc
+not_held false text some = refl
+
+-- transactions have a spelling exactly where their payload is within the limit
+pub transactions_spelled : (units : List (List ℕ)) → IsSome (spelling (Transactions units)) ↔ (length (transactions_payload units) ≤ max_payload)
+transactions_spelled units =
+    let payload : List ℕ = transactions_payload units in (
+      λ some. ltb-false max_payload (length payload) (not_held (ltb max_payload (length payload)) (frame transactions_kind payload) some),
+      λ few. spelled_within (Transactions units) refl few,
+    )
 
 -- ---- kinds
 

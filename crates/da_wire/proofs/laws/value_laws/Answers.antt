@@ -1,20 +1,18 @@
-use Rattle.std.proofs.Common.{arith}
-use Rattle.da_wire.proofs.ValueListLemmas.{values_are_the_file, files_are_values, bad_value_is_first}
-use Rattle.da_wire.proofs.kinds.Spelled.{clash_spelled}
+use Rattle.std.proofs.Common.{arith, length-append}
+use Rattle.std.specs.Int.{w16}
+use Rattle.frame_payloads.specs.codec.Texts.{text_bytes}
 use Rattle.frame_payloads.proofs.Forms.CellCounts.{cells_few}
+use Rattle.da_wire.specs.declared.frames.Frame.TheVariants.{Clash}
+use Rattle.da_wire.proofs.ValueListLemmas.{values_are_the_file, files_are_values, bad_value_is_first}
+use Rattle.da_wire.proofs.kinds.Form.{spelled_within}
 use Rattle.da_wire.proofs.laws.value_laws.Goals as goal
 
-pub returns-clause-values : goal.returns-clause-values
-returns-clause-values c = values_are_the_file
-
-pub returns-clause-files : goal.returns-clause-files
-returns-clause-files c = files_are_values
-
-pub returns-clause-bad : goal.returns-clause-bad
-returns-clause-bad c = bad_value_is_first
-
-pub returns-clause-clash : goal.returns-clause-clash
-returns-clause-clash c = clash_spelled
-
-pub returns-clause-few_cells : goal.returns-clause-few_cells
-returns-clause-few_cells c = λ cells are. omega (arith, cells_few cells are)
+pub returns : goal.returns
+returns c = record {
+  values = values_are_the_file;
+  files = files_are_values;
+  bad = bad_value_is_first;
+  clash = λ clash are some.
+      spelled_within (Clash clash) some (omega (arith, are.left_few, are.right_few, length-append (text_bytes w16 clash.left) (text_bytes w16 clash.right)));
+  few_cells = λ cells are. omega (arith, cells_few cells are);
+}

@@ -1,90 +1,48 @@
-use Rattle.frame_payloads.proofs.Forms.MessageForm.{message_again, message_takes}
-use Rattle.da_wire.proofs.FrameLemmas.{spelled_is_read, read_is_spelled, one_spelling}
-use Rattle.da_wire.proofs.OnlyLemmas.{only_is_spelled, spelled_only}
-use Rattle.da_wire.proofs.FrameListLemmas.{raw_is_frame, frames_are_the_file, files_are_frames, bad_frame_is_first}
-use Rattle.da_wire.proofs.kinds.Spelled.{header_spelled, square_spelled, message_spelled, names_spelled, fraud_spelled, missing_spelled, sample_spelled, request_spelled, commit_spelled, rooted_spelled, transactions_spelled, refusal_spelled, state_spelled}
+use Rattle.std.proofs.Common.{◌+◌, ◌*◌, length, refl, sym, arith}
+use Rattle.std.proofs.lemmas.List.{nil_from_length}
+use Rattle.da_wire.specs.declared.frames.Frame.TheVariants.{Header, Square, Message, Names, Fraud, Missing, Sample, Request, Commit, Rooted, Refusal, State}
 use Rattle.frame_payloads.proofs.AcceptedClaims.{accepted_written}
-use Rattle.frame_payloads.proofs.Forms.CellCounts.{cells_counted}
-use Rattle.frame_payloads.proofs.Forms.CommitSizes.{commit_short}
+use Rattle.frame_payloads.proofs.Forms.CellCounts.{cells_few, cells_counted}
+use Rattle.frame_payloads.proofs.Forms.CommitSizes.{commit_few, commit_short, rooted_sized}
+use Rattle.frame_payloads.proofs.Forms.FraudSizes.{fraud_few}
+use Rattle.frame_payloads.proofs.Forms.MessageForm.{message_again, message_takes}
+use Rattle.frame_payloads.proofs.Forms.NamesSizes.{names_few}
+use Rattle.frame_payloads.proofs.Forms.PayloadSizes.{header_sized, square_sized, message_sized, missing_sized, request_sized}
+use Rattle.da_wire.proofs.FrameLemmas.{spelled_is_read, read_is_spelled, one_spelling}
+use Rattle.da_wire.proofs.FrameListLemmas.{raw_is_frame, frames_are_the_file, files_are_frames, bad_frame_is_first}
+use Rattle.da_wire.proofs.OnlyLemmas.{only_is_spelled, spelled_only}
+use Rattle.da_wire.proofs.kinds.Form.{spelled_when, spelled_within, transactions_spelled}
 use Rattle.da_wire.proofs.laws.wire_laws.Goals as goal
 
-pub returns-clause-read : goal.returns-clause-read
-returns-clause-read c = spelled_is_read
-
-pub returns-clause-spelled : goal.returns-clause-spelled
-returns-clause-spelled c = read_is_spelled
-
-pub returns-clause-one : goal.returns-clause-one
-returns-clause-one c = one_spelling
-
-pub returns-clause-only : goal.returns-clause-only
-returns-clause-only c = only_is_spelled
-
-pub returns-clause-only_read : goal.returns-clause-only_read
-returns-clause-only_read c = spelled_only
-
-pub returns-clause-headers : goal.returns-clause-headers
-returns-clause-headers c = header_spelled
-
-pub returns-clause-squares : goal.returns-clause-squares
-returns-clause-squares c = square_spelled
-
-pub returns-clause-messages : goal.returns-clause-messages
-returns-clause-messages c = message_spelled
-
-pub returns-clause-names : goal.returns-clause-names
-returns-clause-names c = names_spelled
-
-pub returns-clause-claims : goal.returns-clause-claims
-returns-clause-claims c = fraud_spelled
-
-pub returns-clause-accepted : goal.returns-clause-accepted
-returns-clause-accepted c = accepted_written
-
-pub returns-clause-missing : goal.returns-clause-missing
-returns-clause-missing c = missing_spelled
-
-pub returns-clause-cells : goal.returns-clause-cells
-returns-clause-cells c = cells_counted
-
-pub returns-clause-samples : goal.returns-clause-samples
-returns-clause-samples c = sample_spelled
-
-pub returns-clause-requests : goal.returns-clause-requests
-returns-clause-requests c = request_spelled
-
-pub returns-clause-commits : goal.returns-clause-commits
-returns-clause-commits c = commit_spelled
-
-pub returns-clause-shaped : goal.returns-clause-shaped
-returns-clause-shaped c = λ proof shape. commit_short proof (c.shape_laws.ensures.rows proof shape) (c.shape_laws.ensures.subtrees proof shape)
-
-pub returns-clause-rooted : goal.returns-clause-rooted
-returns-clause-rooted c = rooted_spelled
-
-pub returns-clause-transactions : goal.returns-clause-transactions
-returns-clause-transactions c = transactions_spelled
-
-pub returns-clause-refusals : goal.returns-clause-refusals
-returns-clause-refusals c = refusal_spelled
-
-pub returns-clause-states : goal.returns-clause-states
-returns-clause-states c = state_spelled
-
-pub returns-clause-message_read : goal.returns-clause-message_read
-returns-clause-message_read c = message_again
-
-pub returns-clause-message_spelled : goal.returns-clause-message_spelled
-returns-clause-message_spelled c = message_takes
-
-pub returns-clause-raw : goal.returns-clause-raw
-returns-clause-raw c = raw_is_frame
-
-pub returns-clause-frames : goal.returns-clause-frames
-returns-clause-frames c = frames_are_the_file
-
-pub returns-clause-files : goal.returns-clause-files
-returns-clause-files c = files_are_frames
-
-pub returns-clause-bad : goal.returns-clause-bad
-returns-clause-bad c = bad_frame_is_first
+pub returns : goal.returns
+returns c = record {
+  read = spelled_is_read;
+  spelled = read_is_spelled;
+  one = one_spelling;
+  only = only_is_spelled;
+  only_read = spelled_only;
+  headers = λ h is. spelled_when (Header h) (header_sized h (2 + 360 * h.k) is.roots is.rows is.cols refl).1;
+  squares = λ s is shares. spelled_when (Square s) (square_sized s (2 + 512 * (s.k * s.k)) is shares refl).1;
+  messages = λ m is. spelled_when (Message m) (message_sized m (518 + 90 * length m.path) is.share is.nodes is.few refl).1;
+  names = λ name answer is are short. spelled_within (Names name answer) short (names_few name answer is are short);
+  claims = λ claim is short. spelled_within (Fraud claim) short (fraud_few claim is short);
+  accepted = accepted_written;
+  missing = λ cells are some.
+      spelled_when (Missing cells) (missing_sized cells (6 + 4 * length cells.list) (λ none. some (nil_from_length cells.list none)) (omega (arith, cells_few cells are)) refl).1;
+  cells = cells_counted;
+  samples = λ cell axis. spelled_within (Sample cell axis) refl (omega arith);
+  requests = λ name is. spelled_when (Request name) (request_sized name 29 (sym is.size_is) (omega arith)).1;
+  commits = λ proof is short. spelled_within (Commit proof) short (commit_few proof is short);
+  shaped = λ proof shape. commit_short proof (c.shape_laws.ensures.rows proof shape) (c.shape_laws.ensures.subtrees proof shape);
+  rooted = λ proof is. spelled_when (Rooted proof) (rooted_sized proof (611 + 90 * length proof.message.path + 32 * length proof.up) is.is is.few_hashes refl).1;
+  transactions = transactions_spelled;
+  refusals = λ refusal. spelled_within (Refusal refusal) refl (omega arith);
+  states = spelled_within State refl (omega arith);
+  message_read = message_again;
+  message_spelled = message_takes;
+  raw = raw_is_frame;
+  frames = frames_are_the_file;
+  files = files_are_frames;
+  bad = bad_frame_is_first;
+  limit = refl;
+}
