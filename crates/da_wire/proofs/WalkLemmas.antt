@@ -1,6 +1,7 @@
 -- Walking over bytes: a value at the front, none at the front, and no bytes left.
-use Rattle.std.proofs.Common.{◌≡◌, ◌∙◌, ℕ, zero, suc, ◌+◌, ◌-◌, ◌<◌, ◌≤◌, List, [], ◌∷◌, length, drop, Option, Some, None, refl, ap, ap₂, arith}
+use Rattle.std.proofs.Common.{◌≡◌, ◌∙◌, ℕ, zero, suc, ◌+◌, ◌-◌, ◌<◌, ◌≤◌, List, [], ◌∷◌, length, length-drop, take, drop, Option, Some, None, refl, sym, ap, ap₂, arith}
 use Rattle.std.specs.Option.{option_map_or}
+use Rattle.std.proofs.lemmas.List.{drop-drop, take_rest}
 use Rattle.namespace_id.proofs.StringLemmas.{drop_one}
 use Rattle.da_wire.specs.Walks.{walk_from, stop_from}
 
@@ -65,3 +66,31 @@ pub stop_end : {A : Type 0} (one : List ℕ → Option (A × ℕ)) (at : ℕ) (b
 unfolding stop_from
 stop_end one at [] h = refl
 stop_end one at (b ∷ bytes) h = absurd (omega arith)
+
+-- ---- a search that has come to a place
+
+-- the bytes from a place on decide where the first bad place is
+pub record IsAt (A : Type 0) (one : List ℕ → Option (A × ℕ)) (bytes : List ℕ) (at : ℕ) (bad : Option ℕ) : Type 0 where
+  pub within : at ≤ length bytes
+  pub rest : stop_from one 0 at (drop at bytes) ≡ bad
+
+module _ {A : Type 0} (one : List ℕ → Option (A × ℕ)) (bytes : List ℕ) (at : ℕ) (bad : Option ℕ) (is : IsAt A one bytes at bad) where
+  -- a value stands here: the search goes on behind it
+  pub at_on : (x : A) (size : ℕ) → at < length bytes → one (take (length bytes - at) (drop at bytes)) ≡ Some (x, size) → 0 < size
+      → size ≤ length (take (length bytes - at) (drop at bytes)) → IsAt A one bytes (at + size) bad
+  at_on x size more found some few =
+      let part : take (length bytes - at) (drop at bytes) ≡ drop at bytes = take_rest bytes at in
+      record {
+        within = omega (arith, few, ap length part, length-drop at bytes, more);
+        rest = ap (λ (l : List ℕ). stop_from one 0 (at + size) l) (sym (drop-drop size at bytes))
+            ∙ sym (stop_on one at (drop at bytes) x size (ap one (sym part) ∙ found) some (omega (arith, more, length-drop at bytes))) ∙ is.rest;
+      }
+
+  -- none stands here
+  pub at_stop : at < length bytes → one (take (length bytes - at) (drop at bytes)) ≡ None → Some at ≡ bad
+  at_stop more missed =
+      sym (stop_here one at (drop at bytes) (ap one (sym (take_rest bytes at)) ∙ missed) (omega (arith, more, length-drop at bytes))) ∙ is.rest
+
+  -- no byte is left
+  pub at_end : length bytes ≤ at → None ≡ bad
+  at_end end = sym (stop_end one at (drop at bytes) (omega (arith, end, length-drop at bytes))) ∙ is.rest
