@@ -1,5 +1,5 @@
 -- The frames that pushes answer are those of the bytes that they took.
-use Rattle.std.proofs.Common.{◌≡◌, ◌∙◌, ℕ, List, [], ◌∷◌, ◌++◌, map, take, Option, sym, ap, append_assoc, append-nil, arith}
+use Rattle.std.proofs.Common.{◌≡◌, ◌∙◌, ℕ, List, [], ◌∷◌, ◌++◌, map, take, Option, sym, ap, append_assoc, append-nil}
 use Rattle.std.proofs.lemmas.List.{map-append}
 use Rattle.axis_roots.specs.declared.message.messages.Message.{Message}
 use Rattle.da_wire.specs.declared.streams.Pushed.{Pushed}
@@ -8,7 +8,7 @@ use Rattle.da_wire.specs.Reading.{Raw}
 use Rattle.da_wire.specs.Walks.{walk_from}
 use Rattle.da_wire.specs.Frames.{raw_in, frames_of, raw_message}
 use Rattle.da_wire.specs.Streams.{EndsFrame, Push, ArePushes, taken_by, answered, messages_in, EveryCutting, FramesStay}
-use Rattle.da_wire.proofs.StreamWalks.{walk_grows}
+use Rattle.da_wire.proofs.StreamWalks.{grown}
 use Rattle.da_wire.proofs.StreamLemmas.{steady}
 
 -- the samples of frames
@@ -40,4 +40,4 @@ every_cutting pushes all = sym (later_answers [] pushes all)
 
 -- the frames of bytes stay
 pub frames_stay : FramesStay
-frames_stay bytes more = walk_grows raw_in steady 0 bytes more (omega arith)
+frames_stay bytes more = let on = grown raw_in steady 0 bytes more in (on.later, on.found)

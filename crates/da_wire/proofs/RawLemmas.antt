@@ -161,12 +161,13 @@ frame_at-append (b ∷ bytes) more h =
     ∙ ap (λ (l : List ℕ). record { kind = b; payload = l; size = 5 + promised (b ∷ bytes) }) payload
 
 -- a frame is found whatever bytes follow, and within the bytes
-pub raw_of-append : (at : ℕ) (bytes more : List ℕ) (f : Raw) → raw_of at bytes ≡ Ok f → (raw_of at (bytes ++ more) ≡ Ok f) × (f.size ≤ length bytes)
+pub raw_of-append : (at : ℕ) (bytes more : List ℕ) (f : Raw) → raw_of at bytes ≡ Ok f → (raw_of at (bytes ++ more) ≡ Ok f) × (0 < f.size) × (f.size ≤ length bytes)
 raw_of-append at bytes more f e =
     let r = raw_is at bytes f e in
     let same : promised (bytes ++ more) ≡ promised bytes = promised-append bytes more (omega (arith, r.1)) in
     let size : f.size ≡ 5 + promised bytes = ap (λ (g : Raw). g.size) (sym r.2) in (
       raw_whole at (bytes ++ more) (omega (arith, same, r.0)) (omega (arith, same, r.1, length-append bytes more))
           ∙ ap (λ (g : Raw). Ok g) (frame_at-append bytes more r.1 ∙ r.2),
+      omega (arith, size),
       omega (arith, r.1, size),
     )

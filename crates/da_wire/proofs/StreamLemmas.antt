@@ -1,24 +1,22 @@
 -- A stream stands for the bytes that were taken, and they decide what it answers.
 use Rattle.std.proofs.Common.{◌≡◌, ◌∙◌, ℕ, ◌+◌, ◌-◌, ◌<◌, ◌≤◌, true, false, List, [], ◌∷◌, ◌++◌, length, take, drop, Option, None, Some, Ok, Err, refl, sym, ap, arith, length-append, length-drop, length-take-le, append-nil, ⊎_elim}
 use Rattle.std.proofs.lemmas.Bool.{cases_lt, cases_Bool, false≢true}
-use Rattle.std.proofs.lemmas.List.{take-append-le, drop-append-le, take-append-drop, take_all, drop_all, nil_from_length}
+use Rattle.std.proofs.lemmas.List.{take-append-le, drop-append-le, take-append-drop, take_all, drop_all}
 use Rattle.std.proofs.lemmas.Option.{some_pair_parts, none-some}
-use Rattle.std.specs.Option.{option_map_or}
 use Rattle.namespace_id.specs.Bytes.{AreBytes}
 use Rattle.namespace_id.proofs.StringLemmas.{AreBytes-none, AreBytes-append}
-use Rattle.frame_fields.specs.Fields.{◌>>=◌}
 use Rattle.da_wire.specs.declared.frames.FrameError.{FrameError}
 use Rattle.da_wire.specs.declared.frames.FrameError.TheVariants.{Truncated, TooLong}
 use Rattle.da_wire.specs.Reading.{Raw, promised, raw_of}
 use Rattle.da_wire.specs.Frames.{ok_of, raw_in, frames_of, bad_frame}
-use Rattle.da_wire.specs.Walks.{walk_from, stop_from}
+use Rattle.da_wire.specs.Walks.{stop_from}
 use Rattle.da_wire.specs.StreamParts.{StreamParts, kept_front, under_way, is_long, IsUnfinished, KeepsFront}
 use Rattle.da_wire.specs.Streams.{StreamStands, err_of, refusal_at, why_no_frame}
 use Rattle.frame_payloads.proofs.Fields.Readers.{map_some}
 use Rattle.da_wire.proofs.WalkLemmas.{walk_on, walk_stop, stop_on, stop_here, stop_end}
 use Rattle.da_wire.proofs.RawLemmas.{promised-take, raw_short, raw_long, raw_cut, raw_whole, frame_at, raw_of-append, ok_some}
 use Rattle.da_wire.proofs.FrameListLemmas.{sized_raw, raw_found, raw_missed}
-use Rattle.da_wire.proofs.StreamWalks.{IsSteady, walk-append, stop-append}
+use Rattle.da_wire.proofs.StreamWalks.{IsSteady, grown}
 use Rattle.da_wire.proofs.TakingLemmas.{long_parts, not_long}
 
 -- ---- frames and the bytes after them
@@ -38,7 +36,8 @@ steady = record {
       raw_found 0 (bytes ++ more) f (raw_of-append 0 bytes more f p.0).0 ∙ ap (λ (k : ℕ). Some (f, k)) (sym p.1);
   within = λ bytes f n e.
       let p = raw_parts bytes f n e in
-      omega (arith, p.1, (raw_of-append 0 bytes [] f p.0).1);
+      let few = raw_of-append 0 bytes [] f p.0 in
+      (omega (arith, p.1, few.1), omega (arith, p.1, few.2));
 }
 
 -- whole frames, and the bytes after them
@@ -51,10 +50,11 @@ pub behind : (at : ℕ) (bytes : List ℕ) → at ≤ length bytes → bad_frame
 behind at bytes h whole =
     let parts : take at bytes ++ drop at bytes ≡ bytes = take-append-drop at bytes in
     let len : 0 + length (take at bytes) ≡ at = omega (arith, length-take-le at bytes h) in
+    let more = grown raw_in steady 0 (take at bytes) (drop at bytes) in
+    let on = more.whole whole in
     record {
-      frames = ap frames_of (sym parts) ∙ walk-append raw_in steady 0 0 (take at bytes) (drop at bytes) (omega arith) whole;
-      bad = ap bad_frame (sym parts) ∙ stop-append raw_in steady 0 0 (take at bytes) (drop at bytes) (omega arith) whole
-          ∙ ap (λ (n : ℕ). stop_from raw_in 0 n (drop at bytes)) len;
+      frames = ap frames_of (sym parts) ∙ more.found ∙ ap (λ (l : List Raw). frames_of (take at bytes) ++ l) on.0;
+      bad = ap bad_frame (sym parts) ∙ on.1 ∙ ap (λ (n : ℕ). stop_from raw_in 0 n (drop at bytes)) len;
     }
 
 -- what bytes come to: the frames that there are, the first place at which none stands, and why

@@ -1,78 +1,60 @@
--- Walking over bytes that are whole values, and then over more bytes.
-use Rattle.std.proofs.Common.{◌≡◌, ◌∙◌, ℕ, zero, suc, ◌+◌, ◌-◌, ◌≤◌, List, [], ◌∷◌, ◌++◌, length, Option, Some, None, refl, sym, ap, arith}
-use Rattle.std.specs.Option.{option_map_or}
+-- Walking over bytes, and then over more bytes.
+use Rattle.std.proofs.Common.{◌≡◌, ◌∙◌, ℕ, zero, suc, ◌+◌, ◌<◌, ◌≤◌, List, [], ◌∷◌, ◌++◌, length, length-append, length-drop, drop, Option, Some, None, refl, sym, ap, arith}
+use Rattle.std.proofs.lemmas.List.{drop-append-le}
 use Rattle.std.proofs.lemmas.Option.{none-some}
 use Rattle.da_wire.specs.Walks.{walk_from, stop_from}
+use Rattle.da_wire.proofs.WalkLemmas.{walk_on, walk_stop, stop_on, stop_here}
 
 -- a reader that finds a value within bytes finds it whatever bytes follow
 pub record IsSteady (A : Type 0) (one : List ℕ → Option (A × ℕ)) : Type 0 where
   pub again : (bytes more : List ℕ) (x : A) (n : ℕ) → one bytes ≡ Some (x, n) → one (bytes ++ more) ≡ Some (x, n)
-  pub within : (bytes : List ℕ) (x : A) (n : ℕ) → one bytes ≡ Some (x, n) → n ≤ length bytes
+  pub within : (bytes : List ℕ) (x : A) (n : ℕ) → one bytes ≡ Some (x, n) → (0 < n) × (n ≤ length bytes)
 
--- a walk over more bytes, by what stands at the front
-walk_found : {A : Type 0} (one : List ℕ → Option (A × ℕ)) → IsSteady A one → (at b : ℕ) (bytes more : List ℕ) (o : Option (A × ℕ)) → one (b ∷ bytes) ≡ o
-    → option_map_or (λ x. stop_from one (x.1 - 1) (suc at) bytes) o (Some at) ≡ None
-    → ((n : ℕ) → n ≤ length bytes → stop_from one n (suc at) bytes ≡ None → walk_from one n (bytes ++ more) ≡ walk_from one n bytes ++ walk_from one 0 more)
-    → option_map_or (λ x. x.0 ∷ walk_from one (x.1 - 1) (bytes ++ more)) (one (b ∷ bytes ++ more)) []
-    ≡ option_map_or (λ x. x.0 ∷ walk_from one (x.1 - 1) bytes) o [] ++ walk_from one 0 more
-walk_found one steady at b bytes more None e stop later = absurd (none-some at (sym stop))
-walk_found {A} one steady at b bytes more (Some (x, n)) e stop later =
-    ap (λ (o : Option (A × ℕ)). option_map_or (λ x. x.0 ∷ walk_from one (x.1 - 1) (bytes ++ more)) o []) (steady.again (b ∷ bytes) more x n e)
-    ∙ ap (λ (l : List A). x ∷ l) (later (n - 1) (omega (arith, steady.within (b ∷ bytes) x n e)) stop)
+-- what a walk finds is found whatever bytes follow, and behind whole values it goes on
+pub record IsGrown (A : Type 0) (one : List ℕ → Option (A × ℕ)) (at : ℕ) (bytes more : List ℕ) : Type 0 where
+  pub later : List A
+  pub found : walk_from one 0 (bytes ++ more) ≡ walk_from one 0 bytes ++ later
+  pub whole : stop_from one 0 at bytes ≡ None → (later ≡ walk_from one 0 more) × (stop_from one 0 at (bytes ++ more) ≡ stop_from one 0 (at + length bytes) more)
 
--- a walk over whole values finds them, and then those of the bytes after them
-pub walk-append : {A : Type 0} (one : List ℕ → Option (A × ℕ)) → IsSteady A one → (skip at : ℕ) (bytes more : List ℕ) → skip ≤ length bytes → stop_from one skip at bytes ≡ None
-    → walk_from one skip (bytes ++ more) ≡ walk_from one skip bytes ++ walk_from one 0 more
-unfolding walk_from stop_from
-walk-append one steady zero at [] more h stop = refl
-walk-append one steady (suc n) at [] more h stop = absurd (omega arith)
-walk-append one steady zero at (b ∷ bytes) more h stop =
-    walk_found one steady at b bytes more (one (b ∷ bytes)) refl stop (λ n few on. walk-append one steady n (suc at) bytes more few on)
-walk-append one steady (suc n) at (b ∷ bytes) more h stop = walk-append one steady n (suc at) bytes more (omega arith) stop
+module _ {A : Type 0} (one : List ℕ → Option (A × ℕ)) (steady : IsSteady A one) where
+  -- what stands at the front decides
+  grown_by : (at : ℕ) (bytes more : List ℕ) (o : Option (A × ℕ)) → 0 < length bytes → one bytes ≡ o → ((n : ℕ) → 0 < n → IsGrown A one (at + n) (drop n bytes) more)
+      → IsGrown A one at bytes more
+  grown_by at bytes more None some e later = record {
+    later = walk_from one 0 (bytes ++ more);
+    found = sym (ap (λ (l : List A). l ++ walk_from one 0 (bytes ++ more)) (walk_stop one bytes e));
+    whole = λ stop. absurd (none-some at (sym stop ∙ stop_here one at bytes e some));
+  }
+  grown_by at bytes more (Some (x, n)) some e later =
+      let w = steady.within bytes x n e in
+      let rest : IsGrown A one (at + n) (drop n bytes) more = later n w.0 in
+      let again = steady.again bytes more x n e in
+      let longer : 0 < length (bytes ++ more) = omega (arith, some, length-append bytes more) in
+      let behind : drop n (bytes ++ more) ≡ drop n bytes ++ more = drop-append-le n bytes more w.1 in
+      record {
+        later = rest.later;
+        found = walk_on one (bytes ++ more) x n again w.0 longer ∙ ap (λ (l : List ℕ). x ∷ walk_from one 0 l) behind ∙ ap (λ (l : List A). x ∷ l) rest.found
+            ∙ ap (λ (l : List A). l ++ rest.later) (sym (walk_on one bytes x n e w.0 some));
+        whole = λ stop.
+            let on = rest.whole (sym (stop_on one at bytes x n e w.0 some) ∙ stop) in
+            let end : at + n + length (drop n bytes) ≡ at + length bytes = omega (arith, w.1, length-drop n bytes) in (
+              on.0,
+              stop_on one at (bytes ++ more) x n again w.0 longer ∙ ap (λ (l : List ℕ). stop_from one 0 (at + n) l) behind ∙ on.1
+                  ∙ ap (λ (k : ℕ). stop_from one 0 k more) end,
+            );
+      }
 
--- a search behind whole values, by what stands at the front
-stop_found : {A : Type 0} (one : List ℕ → Option (A × ℕ)) → IsSteady A one → (at b : ℕ) (bytes more : List ℕ) (stop : Option ℕ) (o : Option (A × ℕ)) → one (b ∷ bytes) ≡ o
-    → option_map_or (λ x. stop_from one (x.1 - 1) (suc at) bytes) o (Some at) ≡ None
-    → ((n : ℕ) → n ≤ length bytes → stop_from one n (suc at) bytes ≡ None → stop_from one n (suc at) (bytes ++ more) ≡ stop)
-    → option_map_or (λ x. stop_from one (x.1 - 1) (suc at) (bytes ++ more)) (one (b ∷ bytes ++ more)) (Some at) ≡ stop
-stop_found one steady at b bytes more stop None e none later = absurd (none-some at (sym none))
-stop_found {A} one steady at b bytes more stop (Some (x, n)) e none later =
-    ap (λ (o : Option (A × ℕ)). option_map_or (λ x. stop_from one (x.1 - 1) (suc at) (bytes ++ more)) o (Some at)) (steady.again (b ∷ bytes) more x n e)
-    ∙ later (n - 1) (omega (arith, steady.within (b ∷ bytes) x n e)) none
+  -- by recursion on a bound of the length
+  grown_within : (most at : ℕ) (bytes more : List ℕ) → length bytes ≤ most → IsGrown A one at bytes more
+  unfolding walk_from stop_from
+  grown_within most at [] more h =
+      let same : at ≡ at + 0 = omega arith in
+      record { later = walk_from one 0 more; found = refl; whole = λ stop. (refl, ap (λ (k : ℕ). stop_from one 0 k more) same) }
+  grown_within zero at (b ∷ bytes) more h = absurd (omega arith)
+  grown_within (suc most) at (b ∷ bytes) more h =
+      grown_by at (b ∷ bytes) more (one (b ∷ bytes)) (omega arith) refl
+      (λ n some. grown_within most (at + n) (drop n (b ∷ bytes)) more (omega (arith, length-drop n (b ∷ bytes))))
 
--- behind whole values the search goes on
-pub stop-append : {A : Type 0} (one : List ℕ → Option (A × ℕ)) → IsSteady A one → (skip at : ℕ) (bytes more : List ℕ) → skip ≤ length bytes → stop_from one skip at bytes ≡ None
-    → stop_from one skip at (bytes ++ more) ≡ stop_from one 0 (at + length bytes) more
-unfolding stop_from
-stop-append one steady zero at [] more h stop = let e : at ≡ at + 0 = omega arith in ap (λ (k : ℕ). stop_from one 0 k more) e
-stop-append one steady (suc n) at [] more h stop = absurd (omega arith)
-stop-append one steady zero at (b ∷ bytes) more h stop =
-    let e : suc at + length bytes ≡ at + suc (length bytes) = omega arith in
-    stop_found one steady at b bytes more (stop_from one 0 (suc at + length bytes) more) (one (b ∷ bytes)) refl stop (λ n few on. stop-append one steady n (suc at) bytes more few on)
-    ∙ ap (λ (k : ℕ). stop_from one 0 k more) e
-stop-append one steady (suc n) at (b ∷ bytes) more h stop =
-    let e : suc at + length bytes ≡ at + suc (length bytes) = omega arith in
-    stop-append one steady n (suc at) bytes more (omega arith) stop ∙ ap (λ (k : ℕ). stop_from one 0 k more) e
-
--- what a walk finds is found whatever bytes follow, by what stands at the front
-grown_found : {A : Type 0} (one : List ℕ → Option (A × ℕ)) → IsSteady A one → (b : ℕ) (bytes more : List ℕ) (o : Option (A × ℕ)) → one (b ∷ bytes) ≡ o
-    → ((n : ℕ) → n ≤ length bytes → (xs : List A) × (walk_from one n (bytes ++ more) ≡ walk_from one n bytes ++ xs))
-    → (xs : List A) × (option_map_or (λ x. x.0 ∷ walk_from one (x.1 - 1) (bytes ++ more)) (one (b ∷ bytes ++ more)) []
-    ≡ option_map_or (λ x. x.0 ∷ walk_from one (x.1 - 1) bytes) o [] ++ xs)
-grown_found one steady b bytes more None e later = (option_map_or (λ x. x.0 ∷ walk_from one (x.1 - 1) (bytes ++ more)) (one (b ∷ bytes ++ more)) [], refl)
-grown_found {A} one steady b bytes more (Some (x, n)) e later =
-    let on = later (n - 1) (omega (arith, steady.within (b ∷ bytes) x n e)) in (
-      on.0,
-      ap (λ (o : Option (A × ℕ)). option_map_or (λ x. x.0 ∷ walk_from one (x.1 - 1) (bytes ++ more)) o []) (steady.again (b ∷ bytes) more x n e)
-          ∙ ap (λ (l : List A). x ∷ l) on.1,
-    )
-
--- what a walk finds is found whatever bytes follow
-pub walk_grows : {A : Type 0} (one : List ℕ → Option (A × ℕ)) → IsSteady A one → (skip : ℕ) (bytes more : List ℕ) → skip ≤ length bytes
-    → (xs : List A) × (walk_from one skip (bytes ++ more) ≡ walk_from one skip bytes ++ xs)
-unfolding walk_from
-walk_grows one steady zero [] more h = (walk_from one 0 more, refl)
-walk_grows one steady (suc n) [] more h = absurd (omega arith)
-walk_grows one steady zero (b ∷ bytes) more h =
-    grown_found one steady b bytes more (one (b ∷ bytes)) refl (λ n few. walk_grows one steady n bytes more few)
-walk_grows one steady (suc n) (b ∷ bytes) more h = walk_grows one steady n bytes more (omega arith)
+  -- a walk over more bytes
+  pub grown : (at : ℕ) (bytes more : List ℕ) → IsGrown A one at bytes more
+  grown at bytes more = grown_within (length bytes) at bytes more (omega arith)
