@@ -45,25 +45,26 @@ module _ {A : Type 0} (value : Frame → Option A) (make : A → Frame) (is_made
   value_single read x h =
       ap (single_file value) h ∙ ap (λ (o : Option A). option_map_or {U = Result A ℕ} Ok o (Err 0)) (is_value x)
 
+  -- a file is read as a value of some kinds exactly where it is its one spelling
+  file_is : (kinds : List ℕ) → ((x : A) → is_among kinds (kind_of (make x)) ≡ true) → OnlyIsSpelled → (bytes : List ℕ) (x : A) → AreBytes bytes
+      → (single_file value (only_of bytes kinds) ≡ Ok x) ↔ (IsFrame (make x) × (spelling (make x) ≡ Some bytes))
+  file_is kinds among only bytes x fits =
+      let law = only (make x) bytes kinds fits in (
+        λ h. let is = law.0 (single_value (only_of bytes kinds) x h) in (is.0, is.1),
+        λ h. value_single (only_of bytes kinds) x (law.1 (h.0, h.1, among x)),
+      )
+
 -- a file is read as a header exactly where it is the header's one spelling
 pub header_file : OnlyIsSpelled → (bytes : List ℕ) (header : Roots) → AreBytes bytes
     → (header_in bytes ≡ Ok header) ↔ (IsHeader header × (spelling (Header header) ≡ Some bytes))
-header_file only bytes header fits =
-    let read = only_of bytes (header_kind ∷ []) in
-    let law = only (Header header) bytes (header_kind ∷ []) fits in (
-      λ h. let is = law.0 (single_value header_of Header header_frame (λ x. refl) read header h) in (is.0, is.1),
-      λ h. value_single header_of Header header_frame (λ x. refl) read header (law.1 (h.0, h.1, refl)),
-    )
+header_file = file_is header_of Header header_frame (λ x. refl) (header_kind ∷ []) (λ x. refl)
 
 -- a file is read as a square exactly where it is the square's one spelling
 pub square_file : OnlyIsSpelled → (bytes : List ℕ) (square : SquareShares) → AreBytes bytes
     → (square_in bytes ≡ Ok square) ↔ (IsSquare square × AreShares square.shares × (spelling (Square square) ≡ Some bytes))
 square_file only bytes square fits =
-    let read = only_of bytes (square_kind ∷ []) in
-    let law = only (Square square) bytes (square_kind ∷ []) fits in (
-      λ h. let is = law.0 (single_value square_of Square square_frame (λ x. refl) read square h) in (is.0.0, is.0.1, is.1),
-      λ h. value_single square_of Square square_frame (λ x. refl) read square (law.1 ((h.0, h.1), h.2, refl)),
-    )
+    let law = file_is square_of Square square_frame (λ x. refl) (square_kind ∷ []) (λ x. refl) only bytes square fits in
+    (λ h. let is = law.0 h in (is.0.0, is.0.1, is.1), λ h. law.1 ((h.0, h.1), h.2))
 
 -- ---- a block, or a list of transactions
 
@@ -94,13 +95,7 @@ block_or_list_kind (either.Transactions transactions) = refl
 pub block_or_list_file : OnlyIsSpelled → (bytes : List ℕ) (value : BlockOrList) → AreBytes bytes
     → (block_or_list_in bytes ≡ Ok value)
     ↔ (IsFrame (block_or_list_frame value) × (spelling (block_or_list_frame value) ≡ Some bytes))
-block_or_list_file only bytes value fits =
-    let read = only_of bytes block_kinds in
-    let law = only (block_or_list_frame value) bytes block_kinds fits in (
-      λ h. let is = law.0 (single_value block_or_list_of block_or_list_frame block_or_list_made block_or_list_again read value h) in (is.0, is.1),
-      λ h. value_single block_or_list_of block_or_list_frame block_or_list_made block_or_list_again read value
-          (law.1 (h.0, h.1, block_or_list_kind value)),
-    )
+block_or_list_file = file_is block_or_list_of block_or_list_frame block_or_list_made block_or_list_again block_kinds block_or_list_kind
 
 -- the value of an option that has one
 pub some_there : {A : Type 0} (o : Option A) → IsSome o → (x : A) × (o ≡ Some x)

@@ -4,12 +4,11 @@ use Rattle.std.specs.declared.option.Option.{Option}
 use Rattle.std.specs.Option.{option_map_or}
 use Rattle.da_wire.specs.declared.frames.Frame.{Frame}
 use Rattle.da_wire.specs.declared.frames.FrameError.{FrameError}
-use Rattle.da_wire.specs.declared.frames.FrameError.TheVariants.{Truncated, BadKind, TooLong, BadPayload, Trailing, NoMemory}
-use Rattle.da_wire.specs.Reading.{only_of, Reads}
+use Rattle.da_wire.specs.declared.frames.FrameError.TheVariants.{BadKind, NoMemory}
+use Rattle.da_wire.specs.Reading.{only_of, Reads, ReadsAt}
 use Rattle.da_wire.specs.Single.{single as read_single}
 use Rattle.da_wire.proofs.SingleLemmas.{IsNotFull, only_not_full, single_not_full}
 use Rattle.da_wire.specs.Streams.{offset_of}
-use Rattle.da_files.specs.declared.frames.Unread.TheVariants as reasons
 use Rattle.da_files.specs.Frames.{single_file, unread_of, ReadsSingle}
 
 module _ {A : Type 0} where
@@ -40,18 +39,15 @@ module _ {A : Type 0} where
   -- why nothing was read is why the file isn't one frame
   unread : (error : FrameError) (r : Result A FrameError) → IsNotFull r → Reads NoMemory (λ (a : A). a) (Err error) r
       → ReadsSingle (Err (unread_of error)) (told_of r)
-  unread (Truncated at) r h (inl full) = absurd cc
-  unread (Truncated at) r h (inr e) = ap told_of e
-  unread (BadKind at) r h (inl full) = absurd cc
-  unread (BadKind at) r h (inr e) = ap told_of e
-  unread (TooLong at) r h (inl full) = absurd cc
-  unread (TooLong at) r h (inr e) = ap told_of e
-  unread (BadPayload at) r h (inl full) = absurd cc
-  unread (BadPayload at) r h (inr e) = ap told_of e
-  unread (Trailing at) r h (inl full) = absurd cc
-  unread (Trailing at) r h (inr e) = ap told_of e
   unread NoMemory r h (inl full) = told_ok r full.1
   unread NoMemory r h (inr e) = absurd (subst (λ (x : Result A FrameError). IsNotFull x) e h refl)
+  unread error r h (inl full) = absurd cc
+  unread error r h (inr e) = ap told_of e
+
+  -- a reader that takes no memory reads as one that may run out of it
+  pub reads_at : (result read : Result A FrameError) → ReadsAt (λ (a : A). a) result read → Reads NoMemory (λ (a : A). a) result read
+  reads_at (Ok a) read h = h
+  reads_at (Err e) read h = inr h
 
   -- why a file was not read as one frame of a kind
   pub is_unread : (value : Frame → Option A) (bytes kinds : List ℕ) (error : FrameError)

@@ -1,12 +1,16 @@
 //! Files that are one frame of a kind and nothing else, and outputs of one frame.
 
-ghost use Rattle.std.specs.Prelude.{◌≡◌, ◌≢◌, [], IsSome, false};
+ghost use Rattle.std.specs.Prelude.{◌≡◌, ◌≢◌, ℕ, List, [], Option, IsSome, false};
 ghost use Rattle.frame_payloads.specs.kinds.Fraud.{is_unwritten};
 ghost use Rattle.frame_payloads.specs.kinds.Clash.{has_empty};
+ghost use Rattle.da_wire.specs.declared.frames.Frame.{Frame};
+ghost use Rattle.da_wire.specs.declared.frames.FrameError.TheVariants.{NoMemory};
+ghost use Rattle.da_wire.specs.Reading.{only_of, Reads};
+ghost use Rattle.da_wire.specs.Single.{single};
 ghost use Rattle.da_wire.specs.Spelling.{spelling};
 ghost use Rattle.da_wire.specs.declared.frames.Frame.TheVariants as FrameOf;
 ghost use Rattle.da_status.specs.Statuses.{status_kind, output};
-ghost use Rattle.da_files.specs.Frames.{header_in, square_in, message_in, claim_in, block_or_list_of, block_or_list_in, unread_of, ReadsSingle, Writes, WritesText, WritesWith};
+ghost use Rattle.da_files.specs.Frames.{header_in, square_in, message_in, claim_in, block_or_list_of, block_or_list_in, single_file, unread_of, ReadsSingle, Writes, WritesText, WritesWith};
 ghost use Rattle.da_status.specs.Outcome.{EndsAtOnce};
 
 use axis_roots::{FraudClaim, Message, claim_law};
@@ -54,14 +58,23 @@ pub fn reason(error: FrameError) -> Unread
     }
 }
 
+/// What a file is, by what its reader answered.
+fn in_file<A>(read: Result<A, FrameError>) -> Result<A, Unread>
+    ensures { (value : Frame → Option A) (bytes kinds : List ℕ) →
+        Reads NoMemory (λ x. x) read (single value (only_of bytes kinds)) →
+        ReadsSingle result (single_file value (only_of bytes kinds)) }
+{
+    match read {
+        Ok(value) => Ok(value),
+        Err(error) => Err(reason(error)),
+    }
+}
+
 /// The header that a file is: the frame of one and nothing else.
 pub fn header_in(alloc: Global, bytes: &[u8]) -> Result<Header, Unread>
     ensures { ReadsSingle result (header_in bytes.now) }
 {
-    match read_header(alloc, bytes) {
-        Ok(header) => Ok(header),
-        Err(error) => Err(reason(error)),
-    }
+    in_file(read_header(alloc, bytes))
 }
 
 /// Whether a file of samples is so long that keeping what they show of the trees under the header costs
@@ -75,30 +88,21 @@ pub fn is_long(header: &Header, messages: &[u8]) -> bool {
 pub fn square_in(alloc: Global, bytes: &[u8]) -> Result<Square, Unread>
     ensures { ReadsSingle result (square_in bytes.now) }
 {
-    match read_square(alloc, bytes) {
-        Ok(square) => Ok(square),
-        Err(error) => Err(reason(error)),
-    }
+    in_file(read_square(alloc, bytes))
 }
 
 /// The sample that a file is. It takes no memory.
 pub fn message_in(bytes: &[u8]) -> Result<Message, Unread>
     ensures { ReadsSingle result (message_in bytes.now) }
 {
-    match read_message(bytes) {
-        Ok(message) => Ok(message),
-        Err(error) => Err(reason(error)),
-    }
+    in_file(read_message(bytes))
 }
 
 /// The fraud claim that a file is.
 pub fn claim_in(alloc: Global, bytes: &[u8]) -> Result<FraudClaim, Unread>
     ensures { ReadsSingle result (claim_in bytes.now) }
 {
-    match read_claim(alloc, bytes) {
-        Ok(claim) => Ok(claim),
-        Err(error) => Err(reason(error)),
-    }
+    in_file(read_claim(alloc, bytes))
 }
 
 /// The block or the list of transactions that a frame is, none of a frame of another kind.

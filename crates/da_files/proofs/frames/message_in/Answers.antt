@@ -1,18 +1,9 @@
-use Rattle.std.proofs.Common.{inr, subst, sym, Err, [], ◌∷◌}
+use Rattle.std.proofs.Common.{[], ◌∷◌}
 use Rattle.da_wire.specs.Spelling.{message_kind}
-use Rattle.da_wire.specs.Reading.{only_of}
 use Rattle.da_wire.specs.Single.{message_of}
-use Rattle.da_files.specs.declared.frames.Unread.{Unread}
-use Rattle.da_files.specs.Frames.{message_in, ReadsSingle}
-use Rattle.da_files.proofs.FrameLemmas.{is_read, is_unread}
+use Rattle.da_files.proofs.FrameLemmas.{reads_at}
 use Rattle.da_files.proofs.frames.message_in.Goals as goal
 
--- what was read is what the file is
-pub returns-in-Ok : goal.returns-in-Ok
-returns-in-Ok c = is_read message_of (only_of c.args.bytes.now (message_kind ∷ [])) c.in-Ok.message c.in-Ok.ensures
-
--- memory ran out in place of a value alone
-pub returns-in-Err : goal.returns-in-Err
-returns-in-Err c =
-    subst (λ (why : Unread). ReadsSingle (Err why) (message_in c.args.bytes.now)) (sym c.reason.ensures)
-    (is_unread message_of c.args.bytes.now (message_kind ∷ []) c.in-Err.error (inr c.in-Err.ensures))
+-- a reader that takes no memory answers what the file is
+pub returns : goal.returns
+returns c = c.in_file.ensures message_of c.args.bytes.now (message_kind ∷ []) (reads_at c.read_message.result _ c.read_message.ensures)
