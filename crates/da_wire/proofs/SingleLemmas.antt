@@ -39,36 +39,6 @@ pub request_value : (payload : List ℕ) → value_at request_kind payload ≡ o
 unfolding value_at
 request_value payload = refl
 
--- a payload of a header
-pub header_value : (payload : List ℕ) → value_at header_kind payload ≡ option_map Header (header_at payload)
-unfolding value_at
-header_value payload = refl
-
--- a payload of a square
-pub square_value : (payload : List ℕ) → value_at square_kind payload ≡ option_map Square (square_at payload)
-unfolding value_at
-square_value payload = refl
-
--- a payload of a sample
-pub message_value : (payload : List ℕ) → value_at message_kind payload ≡ option_map Message (message_at payload)
-unfolding value_at
-message_value payload = refl
-
--- a payload of a fraud claim
-pub claim_value : (payload : List ℕ) → value_at fraud_kind payload ≡ option_map Fraud (fraud_at payload)
-unfolding value_at
-claim_value payload = refl
-
--- a payload of missing cells
-pub missing_value : (payload : List ℕ) → value_at missing_kind payload ≡ option_map Missing (missing_at payload)
-unfolding value_at
-missing_value payload = refl
-
--- a payload of a block
-pub block_value : (payload : List ℕ) → value_at block_kind payload ≡ option_map Block (block_at payload)
-unfolding value_at
-block_value payload = refl
-
 -- ---- what stands at the front
 
 module _ {A : Type 0} (kind : ℕ) (payload_at : List ℕ → Option A) (made : A → Frame) (same : (payload : List ℕ) → value_at kind payload ≡ option_map made (payload_at payload))
@@ -120,56 +90,6 @@ only_is kind bytes f e h =
     ap (λ (r : Result Raw FrameError). ended (length bytes) (value_of 0 r)) e
     ∙ ap (λ (k : ℕ). ended (length bytes) (valued 0 f (value_at k f.payload))) (one_kind kind bytes f e)
     ∙ whole (length bytes) f (value_at kind f.payload) h
-
-module _ {A : Type 0} (kind : ℕ) (payload_at : List ℕ → Option A) (made : A → Frame) (same : (payload : List ℕ) → value_at kind payload ≡ option_map made (payload_at payload))
-    (value : Frame → Option A) (back : (a : A) → value (made a) ≡ Some a) where
-  -- the value that a payload holds is that of its frame
-  of_option : (o : Option A) → single value (option_map_or Ok (option_map made o) (Err (BadPayload 0))) ≡ option_map_or Ok o (Err (BadPayload 0))
-  of_option None = refl
-  of_option (Some a) = ap (λ (r : Option A). option_map_or Ok r (Err (BadKind 0))) (back a)
-
-  -- the value of the one frame of the kind is what its payload holds
-  single_is : (read : Result Frame FrameError) (payload : List ℕ) → read ≡ of_payload kind payload
-      → single value read ≡ option_map_or Ok (payload_at payload) (Err (BadPayload 0))
-  single_is read payload e =
-      ap (single value) e ∙ ap (λ (o : Option Frame). single value (option_map_or Ok o (Err (BadPayload 0)))) (same payload) ∙ of_option (payload_at payload)
-
-  -- what a payload holds is given, or there is none
-  given : (o : Option A) (result read : Result A FrameError) → result ≡ ok_or o (BadPayload 0) → read ≡ option_map_or Ok o (Err (BadPayload 0)) → ReadsAt (λ x. x) result read
-  given None result read e r = subst (λ (x : Result A FrameError). ReadsAt (λ x. x) x read) (sym e) r
-  given (Some a) result read e r = subst (λ (x : Result A FrameError). ReadsAt (λ x. x) x read) (sym e) r
-
-  -- a reader that takes no memory reads as one that may run out of it
-  pub reads : (result read : Result A FrameError) → ReadsAt (λ x. x) result read → Reads NoMemory (λ x. x) result read
-  reads (Ok a) read h = h
-  reads (Err e) read h = inr h
-
-  -- what there is is given
-  there : (o : Option A) → IsSome o → IsOk {E = FrameError} (option_map_or Ok o (Err (BadPayload 0)))
-  there None h = absurd cc
-  there (Some a) h = refl
-
-  -- memory runs out in place of a value
-  wants : (result read : Result A FrameError) → IsErr result → IsErrAnd result (λ e. e ≡ NoMemory) → IsOk read → Reads NoMemory (λ x. x) result read
-  wants (Ok a) read is h ok = absurd h
-  wants (Err e) read is h ok = inl (h, ok)
-
-  -- a call that takes no memory gives what the one frame is
-  pub single_at : (bytes payload : List ℕ) (result : Result A FrameError) → only_of bytes (kind ∷ []) ≡ of_payload kind payload
-      → result ≡ ok_or (payload_at payload) (BadPayload 0) → ReadsAt (λ x. x) result (single value (only_of bytes (kind ∷ [])))
-  single_at bytes payload result e is = given (payload_at payload) result _ is (single_is (only_of bytes (kind ∷ [])) payload e)
-
-  -- a call that takes memory gives what the one frame is
-  pub single_read : (bytes payload : List ℕ) (o : Option A) (result : Result A FrameError) → only_of bytes (kind ∷ []) ≡ of_payload kind payload → payload_at payload ≡ o
-      → result ≡ ok_or o (BadPayload 0) → Reads NoMemory (λ x. x) result (single value (only_of bytes (kind ∷ [])))
-  single_read bytes payload o result e read is =
-      reads result _ (single_at bytes payload result e (is ∙ ap (λ (p : Option A). ok_or p (BadPayload 0)) (sym read)))
-
-  -- memory runs out where a payload holds a value
-  pub single_full : (bytes payload : List ℕ) (result : Result A FrameError) → only_of bytes (kind ∷ []) ≡ of_payload kind payload → IsSome (payload_at payload)
-      → IsErr result × IsErrAnd result (λ e. e ≡ NoMemory) → Reads NoMemory (λ x. x) result (single value (only_of bytes (kind ∷ [])))
-  single_full bytes payload result e some full =
-      wants result _ full.0 full.1 (subst IsOk (sym (single_is (only_of bytes (kind ∷ [])) payload e)) (there (payload_at payload) some))
 
 -- ---- no refusal is being out of memory
 

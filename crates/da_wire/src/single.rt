@@ -75,54 +75,78 @@ fn only_payload(bytes: &[u8], kind: u8) -> Result<&[u8], FrameError>
 /// a header alone.
 ///
 /// docs/FORMATS.md, "Frames" and "Payloads".
+#[tactic(auto, unfolding(crate::specs::Reading::value_at))]
 pub fn read_header(alloc: Global, bytes: &[u8]) -> Result<Header, FrameError>
     ensures { Reads NoMemory (λ x. x) result (only_header bytes.now) }
 {
-    header(alloc, only_payload(bytes, b'H')?)?.ok_or(FrameError::BadPayload(0))
+    match header(alloc, only_payload(bytes, b'H')?)? {
+        Some(header) => Ok(header),
+        None => Err(FrameError::BadPayload(0)),
+    }
 }
 
 /// The square of the one S frame that the bytes are. It refuses as `read_header` does.
 ///
 /// docs/FORMATS.md, "Frames" and "Payloads".
+#[tactic(auto, unfolding(crate::specs::Reading::value_at))]
 pub fn read_square(alloc: Global, bytes: &[u8]) -> Result<Square, FrameError>
     ensures { Reads NoMemory (λ x. x) result (only_square bytes.now) }
 {
-    square(alloc, only_payload(bytes, b'S')?)?.ok_or(FrameError::BadPayload(0))
+    match square(alloc, only_payload(bytes, b'S')?)? {
+        Some(square) => Ok(square),
+        None => Err(FrameError::BadPayload(0)),
+    }
 }
 
 /// The sample of the one M frame that the bytes are. It refuses as `read_header` does, and takes no
 /// memory.
 ///
 /// docs/FORMATS.md, "Frames" and "Payloads".
+#[tactic(auto, unfolding(crate::specs::Reading::value_at))]
 pub fn read_message(bytes: &[u8]) -> Result<Message, FrameError>
     ensures { ReadsAt (λ x. x) result (only_message bytes.now) }
 {
-    message(only_payload(bytes, b'M')?).ok_or(FrameError::BadPayload(0))
+    match message(only_payload(bytes, b'M')?) {
+        Some(message) => Ok(message),
+        None => Err(FrameError::BadPayload(0)),
+    }
 }
 
 /// The fraud claim of the one B frame that the bytes are. It refuses as `read_header` does.
 ///
 /// docs/FORMATS.md, "Frames" and "Payloads".
+#[tactic(auto, unfolding(crate::specs::Reading::value_at))]
 pub fn read_claim(alloc: Global, bytes: &[u8]) -> Result<FraudClaim, FrameError>
     ensures { Reads NoMemory (λ x. x) result (only_claim bytes.now) }
 {
-    fraud(alloc, only_payload(bytes, b'B')?)?.ok_or(FrameError::BadPayload(0))
+    match fraud(alloc, only_payload(bytes, b'B')?)? {
+        Some(claim) => Ok(claim),
+        None => Err(FrameError::BadPayload(0)),
+    }
 }
 
 /// The missing cells of the one K frame that the bytes are. It refuses as `read_header` does.
 ///
 /// docs/FORMATS.md, "Frames" and "Payloads".
+#[tactic(auto, unfolding(crate::specs::Reading::value_at))]
 pub fn read_missing(alloc: Global, bytes: &[u8]) -> Result<Cells, FrameError>
     ensures { Reads NoMemory (λ x. x) result (only_missing bytes.now) }
 {
-    missing(alloc, only_payload(bytes, b'K')?)?.ok_or(FrameError::BadPayload(0))
+    match missing(alloc, only_payload(bytes, b'K')?)? {
+        Some(cells) => Ok(cells),
+        None => Err(FrameError::BadPayload(0)),
+    }
 }
 
 /// The block of the one V frame that the bytes are. It refuses as `read_header` does.
 ///
 /// docs/FORMATS.md, "Frames" and "Payloads".
+#[tactic(auto, unfolding(crate::specs::Reading::value_at))]
 pub fn read_block(alloc: Global, bytes: &[u8]) -> Result<Block, FrameError>
     ensures { Reads NoMemory (λ x. x) result (only_block bytes.now) }
 {
-    block(alloc, only_payload(bytes, b'V')?)?.ok_or(FrameError::BadPayload(0))
+    match block(alloc, only_payload(bytes, b'V')?)? {
+        Some(block) => Ok(block),
+        None => Err(FrameError::BadPayload(0)),
+    }
 }
