@@ -1,80 +1,51 @@
 -- Readers of one kind: what stands at the front, and the one frame that all of the bytes are.
-use Rattle.std.proofs.Common.{◌≡◌, ◌∙◌, ℕ, ◌+◌, ◌-◌, ◌≤◌, Bool, true, false, eqb, ltb, ◌&&◌, cond, List, [], ◌∷◌, length, take, drop, Option, None, Some, Result, Ok, Err, refl, sym, ap, subst, arith, inl, inr, le-ltb}
-use Rattle.std.specs.Prelude.{⊤, IsOk, IsSome, IsErr, slice_index}
-use Rattle.std.specs.Option.{option_map, option_map_or, ok_or}
-use Rattle.std.specs.Result.{IsErrAnd}
+use Rattle.std.proofs.Common.{◌≡◌, ◌∙◌, ℕ, ◌+◌, ◌-◌, ◌≤◌, Bool, true, false, eqb, ltb, ◌&&◌, cond, List, [], ◌∷◌, length, take, drop, Option, None, Some, Result, Ok, Err, refl, sym, ap, arith, le-ltb}
+use Rattle.std.specs.Prelude.{⊤, slice_index}
+use Rattle.std.specs.Option.{option_map, option_map_or}
 use Rattle.std.proofs.lemmas.List.{take_rest}
-use Rattle.namespace_id.specs.declared.cells.Cell.{Cell}
-use Rattle.namespace_id.specs.declared.cells.Axis.{Axis}
 use Rattle.da_wire.specs.declared.frames.Frame.{Frame}
-use Rattle.da_wire.specs.declared.frames.Frame.TheVariants.{Header, Square, Message, Fraud, Missing, Sample, Request, Block}
 use Rattle.da_wire.specs.declared.frames.FrameError.{FrameError}
 use Rattle.da_wire.specs.declared.frames.FrameError.TheVariants.{Truncated, BadKind, TooLong, BadPayload, Trailing, NoMemory}
-use Rattle.da_wire.specs.Spelling.{header_kind, square_kind, message_kind, fraud_kind, missing_kind, sample_kind, request_kind, block_kind}
 use Rattle.frame_payloads.specs.Payloads.{max_payload}
-use Rattle.da_wire.specs.Reading.{Raw, promised, raw_of, is_kind, value_at, valued, value_of, is_among, tested_raw, tested_frame, ended, only_of, Reads, ReadsAt}
+use Rattle.da_wire.specs.Reading.{Raw, promised, raw_of, is_kind, value_at, valued, value_of, is_among, tested_raw, tested_frame, ended, only_of}
 use Rattle.da_wire.specs.Values.{value_in, value_and_rest, values_of}
 use Rattle.da_wire.specs.Single.{single, of_payload}
-use Rattle.frame_payloads.specs.kinds.Header.{header_at}
-use Rattle.frame_payloads.specs.kinds.Square.{square_at}
-use Rattle.frame_fields.specs.Messages.{message_at}
-use Rattle.frame_payloads.specs.kinds.Fraud.{fraud_at}
-use Rattle.frame_payloads.specs.kinds.Missing.{missing_at}
-use Rattle.frame_payloads.specs.kinds.Requests.{sample_at, request_at}
-use Rattle.frame_payloads.specs.kinds.Block.{block_at}
 use Rattle.da_wire.proofs.RawLemmas.{frame_at}
-use Rattle.da_wire.proofs.ValueListLemmas.{value_found, value_missed}
+use Rattle.da_wire.proofs.ValueListLemmas.{held_front}
 use Rattle.da_wire.proofs.WalkLemmas.{walk_on, walk_stop}
 use Rattle.da_wire.proofs.KindLemmas.{one_kind}
 
--- ---- what a payload of a kind holds
-
--- a payload of a request for a sample
-pub sample_value : (payload : List ℕ) → value_at sample_kind payload ≡ option_map (λ (s : Cell × Axis). Sample s.0 s.1) (sample_at payload)
-unfolding value_at
-sample_value payload = refl
-
--- a payload of a request for the shares of a namespace
-pub request_value : (payload : List ℕ) → value_at request_kind payload ≡ option_map Request (request_at payload)
-unfolding value_at
-request_value payload = refl
-
 -- ---- what stands at the front
 
-module _ {A : Type 0} (kind : ℕ) (payload_at : List ℕ → Option A) (made : A → Frame) (same : (payload : List ℕ) → value_at kind payload ≡ option_map made (payload_at payload))
-    (bytes : List ℕ) (f : Raw) (front : tested_raw (is_among (kind ∷ [])) 0 bytes ≡ Ok f) where
-  -- the value of a frame of the kind
-  front_value : value_at f.kind f.payload ≡ option_map made (payload_at f.payload)
-  front_value = ap (λ (k : ℕ). value_at k f.payload) (one_kind kind bytes f front) ∙ same f.payload
+module _ (kind : ℕ) (bytes : List ℕ) (f : Raw) (front : tested_raw (is_among (kind ∷ [])) 0 bytes ≡ Ok f) where
+  -- the bytes after the frame
+  abbrev rest : List ℕ
+  rest = take (length bytes - f.size) (drop f.size bytes)
 
-  -- a payload in its grammar is that of the value at the front
-  found : (a : A) → payload_at f.payload ≡ Some a → value_in (kind ∷ []) bytes ≡ Some (made a, f.size)
-  found a read = value_found (kind ∷ []) bytes f (made a) front (front_value ∙ ap (option_map made) read)
+  -- the value of a frame of the kind, and its length
+  kind_front : value_in (kind ∷ []) bytes ≡ option_map (λ (v : Frame). (v, f.size)) (value_at kind f.payload)
+  kind_front =
+      held_front (kind ∷ []) bytes f front ∙ ap (λ (k : ℕ). option_map (λ (v : Frame). (v, f.size)) (value_at k f.payload)) (one_kind kind bytes f front)
 
-  -- a payload that isn't in its grammar is that of none
-  pub missed : payload_at f.payload ≡ None → value_in (kind ∷ []) bytes ≡ None
-  missed read = value_missed (kind ∷ []) bytes f front (front_value ∙ ap (option_map made) read)
+  -- the value at the front, if there is one, and the bytes after it
+  after_by : (o : Option Frame) → value_in (kind ∷ []) bytes ≡ option_map (λ (v : Frame). (v, f.size)) o → value_and_rest (kind ∷ []) bytes ≡ option_map (λ (v : Frame). (v, rest)) o
+  after_by None e = ap (option_map (λ (x : Frame × ℕ). (x.0, drop x.1 bytes))) e
+  after_by (Some v) e = ap (option_map (λ (x : Frame × ℕ). (x.0, drop x.1 bytes))) e ∙ ap (λ (l : List ℕ). Some (v, l)) (sym (take_rest bytes f.size))
 
-  -- the value at the front, and the bytes after it
-  pub found_after : (a : A) → payload_at f.payload ≡ Some a
-      → value_and_rest (kind ∷ []) bytes ≡ Some (made a, take (length bytes - f.size) (drop f.size bytes))
-  found_after a read =
-      ap (λ (o : Option (Frame × ℕ)). option_map (λ x. (x.0, drop x.1 bytes)) o) (found a read)
-      ∙ ap (λ (l : List ℕ). Some (made a, l)) (sym (take_rest bytes f.size))
+  pub front_after : value_and_rest (kind ∷ []) bytes ≡ option_map (λ (v : Frame). (v, rest)) (value_at kind f.payload)
+  front_after = after_by (value_at kind f.payload) kind_front
 
-  -- the value at the front, and those after it
-  pub found_values : (a : A) → payload_at f.payload ≡ Some a → 5 ≤ f.size → f.size ≤ length bytes
-      → values_of (kind ∷ []) bytes ≡ made a ∷ values_of (kind ∷ []) (take (length bytes - f.size) (drop f.size bytes))
-  found_values a read five within =
-      walk_on (value_in (kind ∷ [])) bytes (made a) f.size (found a read) (omega (arith, five)) (omega (arith, five, within))
-      ∙ ap (λ (l : List ℕ). made a ∷ values_of (kind ∷ []) l) (sym (take_rest bytes f.size))
+  -- the value at the front, if there is one, and those after it
+  values_by : (o : Option Frame) → value_in (kind ∷ []) bytes ≡ option_map (λ (v : Frame). (v, f.size)) o → 5 ≤ f.size → f.size ≤ length bytes
+      → values_of (kind ∷ []) bytes ≡ option_map_or (λ (v : Frame). v ∷ values_of (kind ∷ []) rest) o []
+  values_by None e five within = walk_stop (value_in (kind ∷ [])) bytes e
+  values_by (Some v) e five within =
+      walk_on (value_in (kind ∷ [])) bytes v f.size e (omega (arith, five)) (omega (arith, five, within))
+      ∙ ap (λ (l : List ℕ). v ∷ values_of (kind ∷ []) l) (sym (take_rest bytes f.size))
 
-  -- where none stands at the front, there are none
-  pub missed_after : payload_at f.payload ≡ None → value_and_rest (kind ∷ []) bytes ≡ None
-  missed_after read = ap (λ (o : Option (Frame × ℕ)). option_map (λ x. (x.0, drop x.1 bytes)) o) (missed read)
-
-  pub missed_values : payload_at f.payload ≡ None → values_of (kind ∷ []) bytes ≡ []
-  missed_values read = walk_stop (value_in (kind ∷ [])) bytes (missed read)
+  pub front_values : 5 ≤ f.size → f.size ≤ length bytes
+      → values_of (kind ∷ []) bytes ≡ option_map_or (λ (v : Frame). v ∷ values_of (kind ∷ []) rest) (value_at kind f.payload) []
+  front_values five within = values_by (value_at kind f.payload) kind_front five within
 
 -- ---- the one frame that all of the bytes are
 

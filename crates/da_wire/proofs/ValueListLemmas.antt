@@ -84,17 +84,24 @@ bad_value_is_first kinds bytes at fits e =
 
 -- ---- one value, as the code finds it
 
--- a frame of these kinds, and its value
+-- a value that a payload holds, and its length
+sized : (f : Raw) (o : Option Frame) → ok_of (valued 0 f o) ≡ option_map (λ (v : Frame). (v, f.size)) o
+sized f None = refl
+sized f (Some v) = let all : 0 + f.size ≡ f.size = omega arith in ap (λ (n : ℕ). Some (v, n)) all
+
+-- a frame of these kinds, and the value that its payload holds
+pub held_front : (kinds bytes : List ℕ) (f : Raw) → tested_raw (is_among kinds) 0 bytes ≡ Ok f
+    → value_in kinds bytes ≡ option_map (λ (v : Frame). (v, f.size)) (value_at f.kind f.payload)
+held_front kinds bytes f e = ap (λ (r : Result Raw FrameError). ok_of (value_of 0 r)) e ∙ sized f (value_at f.kind f.payload)
+
+-- the value that it holds
 pub value_found : (kinds bytes : List ℕ) (f : Raw) (value : Frame) → tested_raw (is_among kinds) 0 bytes ≡ Ok f → value_at f.kind f.payload ≡ Some value
     → value_in kinds bytes ≡ Some (value, f.size)
-value_found kinds bytes f value e read =
-    let all : 0 + f.size ≡ f.size = omega arith in
-    ap (λ (r : Result Raw FrameError). ok_of (value_of 0 r)) e ∙ ap (λ (o : Option Frame). ok_of (valued 0 f o)) read ∙ ap (λ (n : ℕ). Some (value, n)) all
+value_found kinds bytes f value e read = held_front kinds bytes f e ∙ ap (option_map (λ (v : Frame). (v, f.size))) read
 
 -- its payload isn't in the grammar
 pub value_missed : (kinds bytes : List ℕ) (f : Raw) → tested_raw (is_among kinds) 0 bytes ≡ Ok f → value_at f.kind f.payload ≡ None → value_in kinds bytes ≡ None
-value_missed kinds bytes f e read =
-    ap (λ (r : Result Raw FrameError). ok_of (value_of 0 r)) e ∙ ap (λ (o : Option Frame). ok_of (valued 0 f o)) read
+value_missed kinds bytes f e read = held_front kinds bytes f e ∙ ap (option_map (λ (v : Frame). (v, f.size))) read
 
 -- there is no such frame
 pub frame_missed : (kinds bytes : List ℕ) (why : FrameError) → tested_raw (is_among kinds) 0 bytes ≡ Err why → value_in kinds bytes ≡ None

@@ -1,11 +1,12 @@
 //! Readers of frames of one kind: each gives the value that frames of its kind have.
 
-ghost use Rattle.std.specs.Prelude.{◌≡◌, ◌<◌, [], ◌∷◌, length, IfSome, MatchOption, MatchResult, Err};
+ghost use Rattle.std.specs.Prelude.{◌≡◌, ◌<◌, [], ◌∷◌, length, IfSome, None, MatchOption, MatchResult, Err};
+ghost use Rattle.std.specs.Option.{option_map, option_map_or};
 ghost use Rattle.namespace_id.specs.Answers.{Gives};
 ghost use Rattle.da_wire.specs.declared.frames.Frame.TheVariants as FrameOf;
 ghost use Rattle.da_wire.specs.declared.frames.FrameError.TheVariants.{NoMemory};
 ghost use Rattle.da_wire.specs.Spelling.{sample_kind, request_kind};
-ghost use Rattle.da_wire.specs.Reading.{only_of, Reads, ReadsAt};
+ghost use Rattle.da_wire.specs.Reading.{value_at, only_of, Reads, ReadsAt};
 ghost use Rattle.da_wire.specs.Values.{value_and_rest, values_of};
 ghost use Rattle.da_wire.specs.Single.{of_payload, only_header, only_square, only_message, only_claim, only_missing, only_block};
 
@@ -19,10 +20,26 @@ use namespace_id::{Axis, Cell, Cells, Namespace};
 use square_layout::{Block, Square};
 use std::alloc::Global;
 
+/// The payload of the frame of this kind at the front of bytes, and the bytes after it. It takes no memory.
+fn next_payload(bytes: &[u8], kind: u8) -> Option<(&[u8], &[u8])>
+    ensures after { MatchOption result (value_and_rest (kind ∷ []) bytes.now ≡ None)
+        (λ x. value_and_rest (kind ∷ []) bytes.now ≡ option_map (λ v. (v, x.1.now)) (value_at kind x.0.now)) }
+    ensures values { MatchOption result (values_of (kind ∷ []) bytes.now ≡ [])
+        (λ x. values_of (kind ∷ []) bytes.now
+        ≡ option_map_or (λ v. v ∷ values_of (kind ∷ []) x.1.now) (value_at kind x.0.now) []) }
+    ensures shorter { IfSome result (λ x. length x.1.now < length bytes.now) }
+{
+    let Ok(frame) = raw_among(bytes, &[kind]) else {
+        return None;
+    };
+    Some((frame.payload, &bytes[frame.size as usize..]))
+}
+
 /// The request for a sample at the front of bytes, and the bytes after it; none where no Q frame in
 /// the grammar stands there. It takes no memory.
 ///
 /// docs/FORMATS.md, "Lists of frames".
+#[tactic(auto, unfolding(crate::specs::Reading::value_at))]
 pub fn next_sample(bytes: &[u8]) -> Option<((Cell, Axis), &[u8])>
     ensures after { Gives (λ x. (FrameOf.Sample x.0.0 x.0.1, x.1.now)) result
         (value_and_rest (sample_kind ∷ []) bytes.now) }
@@ -31,17 +48,18 @@ pub fn next_sample(bytes: &[u8]) -> Option<((Cell, Axis), &[u8])>
         ≡ FrameOf.Sample x.0.0 x.0.1 ∷ values_of (sample_kind ∷ []) x.1.now) }
     ensures shorter { IfSome result (λ x. length x.1.now < length bytes.now) }
 {
-    let Ok(frame) = raw_among(bytes, b"Q") else {
-        return None;
-    };
-    let asked = sample(frame.payload)?;
-    Some((asked, &bytes[frame.size as usize..]))
+    let (payload, rest) = next_payload(bytes, b'Q')?;
+    match sample(payload) {
+        Some(asked) => Some((asked, rest)),
+        None => None,
+    }
 }
 
 /// The request for the shares of a namespace at the front of bytes, and the bytes after it; none where
 /// no P frame in the grammar stands there. It takes no memory.
 ///
 /// docs/FORMATS.md, "Lists of frames".
+#[tactic(auto, unfolding(crate::specs::Reading::value_at))]
 pub fn next_request(bytes: &[u8]) -> Option<(Namespace, &[u8])>
     ensures after { Gives (λ x. (FrameOf.Request x.0, x.1.now)) result
         (value_and_rest (request_kind ∷ []) bytes.now) }
@@ -50,11 +68,11 @@ pub fn next_request(bytes: &[u8]) -> Option<(Namespace, &[u8])>
         ≡ FrameOf.Request x.0 ∷ values_of (request_kind ∷ []) x.1.now) }
     ensures shorter { IfSome result (λ x. length x.1.now < length bytes.now) }
 {
-    let Ok(frame) = raw_among(bytes, b"P") else {
-        return None;
-    };
-    let name = request(frame.payload)?;
-    Some((name, &bytes[frame.size as usize..]))
+    let (payload, rest) = next_payload(bytes, b'P')?;
+    match request(payload) {
+        Some(name) => Some((name, rest)),
+        None => None,
+    }
 }
 
 /// The payload of the one frame of this kind that the bytes are. It takes no memory.
