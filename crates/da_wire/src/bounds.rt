@@ -3,37 +3,21 @@
 ghost use Rattle.std.specs.Prelude.{◌<◌, ◌^◌, IfSome};
 ghost use Rattle.std.specs.List.{AllByRecursion};
 ghost use Rattle.namespace_id.specs.Bytes.{AreBytes, IsString};
-ghost use Rattle.namespace_id.specs.Cells.{AreCells, IsCell};
-ghost use Rattle.namespace_id.specs.Names.{IsNamespace};
-ghost use Rattle.axis_roots.specs.Answers.{AreEntries};
-ghost use Rattle.data_header.specs.Headers.{IsHeader};
+ghost use Rattle.namespace_id.specs.Cells.{IsCell};
 ghost use Rattle.share_split.specs.Blobs.{IsNamed, signer_size};
 ghost use Rattle.square_layout.specs.Blocks.{IsBlock};
-ghost use Rattle.frame_payloads.specs.kinds.Clash.{AreStrings};
 ghost use Rattle.frame_payloads.specs.kinds.Commit.{IsRowSent, IsCommitSent};
 ghost use Rattle.frame_payloads.specs.kinds.Refusal.{IsRefusal};
 ghost use Rattle.frame_payloads.specs.kinds.Rooted.{IsRootedSent};
 ghost use Rattle.da_wire.specs.Spelling.{IsFrame};
 
 use crate::Frame;
-use axis_roots::{NsAnswer, answer_law, claim_law, message_law};
+use axis_roots::{answer_law, claim_law, message_law};
 use blob_commit::{CommitProof, CommitRow, RootedMessage, rooted_law, row_law};
-use data_header::Header;
 use frame_payloads::{Refusal, hash_law};
-use hash_clash::Clash;
-use namespace_id::{
-    Cell, Cells, Namespace, bytes_law, digests_law, namespace_law, share_law, shares_law,
-};
+use namespace_id::{Cell, bytes_law, digests_law, namespace_law, shares_law};
 use share_split::{Blob, SIGNER_SIZE, Unit};
 use square_layout::Block;
-
-/// Says that a header has its width, 2k roots each, and digests of 90 bytes. It changes nothing.
-fn header_law(header: &Header)
-    ensures { IsHeader header.now }
-{
-    digests_law(&header.rows);
-    digests_law(&header.cols);
-}
 
 /// Says that a cell has numbers of two bytes. It changes nothing.
 fn cell_law(cell: &Cell)
@@ -41,13 +25,6 @@ fn cell_law(cell: &Cell)
 {
     let _row = cell.row;
     let _col = cell.col;
-}
-
-/// Says that cells are those of a square, strictly ascending in row-major order. It changes nothing.
-fn cells_law(cells: &Cells)
-    ensures { AreCells cells.now }
-{
-    let _k = cells.k;
 }
 
 /// Says that each unit of a slice is of bytes. It changes nothing.
@@ -105,24 +82,6 @@ fn block_law(block: &Block)
     width_law(block.width);
 }
 
-/// Says that a namespace has 29 bytes, and that an answer has numbers of two bytes, shares, digests,
-/// and up to `2 * MOST_DEPTH` nodes an entry. It changes nothing.
-fn names_law(name: &Namespace, answer: &NsAnswer)
-    ensures name { IsNamespace name.now }
-    ensures entries { AreEntries answer.now }
-{
-    namespace_law(name);
-    answer_law(answer);
-}
-
-/// Says that the strings of a collision are one, of up to 542 bytes each. It changes nothing.
-fn clash_law(clash: &Clash)
-    ensures { AreStrings clash.now }
-{
-    let _left = clash.left().bytes();
-    let _right = clash.right().bytes();
-}
-
 /// Says that a row of a commitment proof has digests and hashes, up to `MOST_HASHES` of these and up to
 /// `2 * MOST_DEPTH` nodes. It changes nothing.
 fn sent_row_law(row: &CommitRow)
@@ -177,13 +136,24 @@ pub fn frame_law(frame: &Frame)
     ensures { IsFrame frame.now }
 {
     match frame {
-        Frame::Header(header) => header_law(header),
+        Frame::Header(header) => {
+            digests_law(&header.rows);
+            digests_law(&header.cols);
+        }
         Frame::Square(square) => shares_law(&square.shares),
         Frame::Message(message) => message_law(message),
-        Frame::Names(name, answer) => names_law(name, answer),
+        Frame::Names(name, answer) => {
+            namespace_law(name);
+            answer_law(answer);
+        }
         Frame::Fraud(claim) => claim_law(claim),
-        Frame::Missing(cells) => cells_law(cells),
-        Frame::Clash(clash) => clash_law(clash),
+        Frame::Missing(cells) => {
+            let _k = cells.k;
+        }
+        Frame::Clash(clash) => {
+            let _left = clash.left().bytes();
+            let _right = clash.right().bytes();
+        }
         Frame::Sample(cell, _) => cell_law(cell),
         Frame::Request(name) => namespace_law(name),
         Frame::Block(block) => block_law(block),
