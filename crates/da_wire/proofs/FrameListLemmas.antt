@@ -13,7 +13,7 @@ use Rattle.da_wire.specs.Frames.{ok_of, raw_in, frames_of, bad_frame, IsRaw}
 use Rattle.da_wire.specs.Laws.{FramesAreTheFile, FilesAreFrames, BadFrameIsFirst, RawIsFrame}
 use Rattle.frame_payloads.proofs.Fields.Readers.{map_some}
 use Rattle.da_wire.proofs.RawLemmas.{length-frame, raw_again, raw_takes, ok_some}
-use Rattle.da_wire.proofs.ListedLemmas.{IsFront, IsReader, walk_again, stop_none, walked, walked_all, walked_some}
+use Rattle.da_wire.proofs.ListedLemmas.{IsFront, IsReader, listed_again, walked, walked_all, walked_some}
 
 -- ---- one frame
 
@@ -83,7 +83,7 @@ reader = record {
 
 -- frames, one after another, are a file that is a list of them
 pub files_are_frames : FilesAreFrames
-files_are_frames frames all = (stop_none raw_in raw_text IsRaw reader 0 frames all, walk_again raw_in raw_text IsRaw reader frames all)
+files_are_frames frames all = listed_again raw_in raw_text IsRaw reader 0 frames all
 
 -- a file that is a list of frames is these frames, one after another
 pub frames_are_the_file : FramesAreTheFile

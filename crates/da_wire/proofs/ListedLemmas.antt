@@ -24,29 +24,22 @@ pub record IsReader (A : Type 0) (one : List ℕ → Option (A × ℕ)) (text : 
 
 -- ---- values as a file
 
--- values that are written one after another are those that a walk finds
-pub walk_again : {A : Type 0} (one : List ℕ → Option (A × ℕ)) (text : A → List ℕ) (Is : A → Type 0) → IsReader A one text Is
-    → (xs : List A) → AllByRecursion Is xs → walk_from one 0 (flat_map text xs) ≡ xs
-unfolding walk_from
-walk_again one text Is reader [] all = refl
-walk_again {A} one text Is reader (x ∷ xs) all =
+-- a walk over values that are written one after another finds them, and stops nowhere
+pub listed_again : {A : Type 0} (one : List ℕ → Option (A × ℕ)) (text : A → List ℕ) (Is : A → Type 0) → IsReader A one text Is
+    → (at : ℕ) (xs : List A) → AllByRecursion Is xs → (stop_from one 0 at (flat_map text xs) ≡ None) × (walk_from one 0 (flat_map text xs) ≡ xs)
+unfolding walk_from stop_from
+listed_again one text Is reader at [] all = (refl, refl)
+listed_again {A} one text Is reader at (x ∷ xs) all =
+    let n : ℕ = length (text x) in
     let rest : List ℕ = flat_map text xs in
-    let some : 0 < length (text x) = reader.some x all.0 in
-    walk_on one (text x ++ rest) x (length (text x)) (reader.again x rest all.0) some (omega (arith, some, length-append (text x) rest))
-    ∙ ap (λ (l : List ℕ). x ∷ walk_from one 0 l) (drop_at (text x) rest (length (text x)) refl)
-    ∙ ap (λ (l : List A). x ∷ l) (walk_again one text Is reader xs all.1)
-
--- a walk over values that are written one after another stops nowhere
-pub stop_none : {A : Type 0} (one : List ℕ → Option (A × ℕ)) (text : A → List ℕ) (Is : A → Type 0) → IsReader A one text Is
-    → (at : ℕ) (xs : List A) → AllByRecursion Is xs → stop_from one 0 at (flat_map text xs) ≡ None
-unfolding stop_from
-stop_none one text Is reader at [] all = refl
-stop_none one text Is reader at (x ∷ xs) all =
-    let rest : List ℕ = flat_map text xs in
-    let some : 0 < length (text x) = reader.some x all.0 in
-    stop_on one at (text x ++ rest) x (length (text x)) (reader.again x rest all.0) some (omega (arith, some, length-append (text x) rest))
-    ∙ ap (λ (l : List ℕ). stop_from one 0 (at + length (text x)) l) (drop_at (text x) rest (length (text x)) refl)
-    ∙ stop_none one text Is reader (at + length (text x)) xs all.1
+    let some : 0 < n = reader.some x all.0 in
+    let long : 0 < length (text x ++ rest) = omega (arith, some, length-append (text x) rest) in
+    let found = reader.again x rest all.0 in
+    let behind : drop n (text x ++ rest) ≡ rest = drop_at (text x) rest n refl in
+    let later = listed_again one text Is reader (at + n) xs all.1 in (
+      stop_on one at (text x ++ rest) x n found some long ∙ ap (λ (l : List ℕ). stop_from one 0 (at + n) l) behind ∙ later.0,
+      walk_on one (text x ++ rest) x n found some long ∙ ap (λ (l : List ℕ). x ∷ walk_from one 0 l) behind ∙ ap (λ (l : List A). x ∷ l) later.1,
+    )
 
 -- ---- a file as values
 

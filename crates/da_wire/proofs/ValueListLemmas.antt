@@ -15,7 +15,7 @@ use Rattle.da_wire.specs.Values.{value_in, values_of, bad_value, text_of, IsValu
 use Rattle.da_wire.specs.Laws.{ValuesAreTheFile, FilesAreValues, BadValueIsFirst, IsSpelledFront}
 use Rattle.da_wire.proofs.RawLemmas.{ok_some}
 use Rattle.da_wire.proofs.FrameLemmas.{Answer, spelling_some, tested_read, tested_spelled}
-use Rattle.da_wire.proofs.ListedLemmas.{IsFront, IsReader, walk_again, stop_none, walked, walked_all, walked_some}
+use Rattle.da_wire.proofs.ListedLemmas.{IsFront, IsReader, listed_again, walked, walked_all, walked_some}
 
 -- the text of what has a spelling
 text_is : (o : Option (List ℕ)) → IsSome o → o ≡ Some (option_map_or (λ text. text) o [])
@@ -54,8 +54,7 @@ reader kinds = record { again = value_again kinds; takes = value_front kinds; so
 
 -- spellings of such values, one after another, are a file that is a list of them
 pub files_are_values : FilesAreValues
-files_are_values kinds values all =
-    (stop_none (value_in kinds) text_of (IsValue kinds) (reader kinds) 0 values all, walk_again (value_in kinds) text_of (IsValue kinds) (reader kinds) values all)
+files_are_values kinds values all = listed_again (value_in kinds) text_of (IsValue kinds) (reader kinds) 0 values all
 
 -- a file that is a list of such values is their spellings, one after another
 pub values_are_the_file : ValuesAreTheFile
