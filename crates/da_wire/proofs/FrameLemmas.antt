@@ -26,21 +26,11 @@ Answer = Result (Frame × ℕ) FrameError
 
 -- ---- the two tests before a frame is read
 
--- where all tests are passed, what is behind them is answered
-tests_hold : (none a b : Bool) (empty wrong : FrameError) (read : Result Raw FrameError) → none ≡ false → a ≡ true → b ≡ true
-    → cond none (Err empty) (cond (a && b) read (Err wrong)) ≡ read
-tests_hold false true true empty wrong read p q r = refl
-tests_hold none a b empty wrong read p q r = absurd cc
-
 -- where a frame is answered, all tests were passed
 pub tests_held : (none a b : Bool) (empty wrong : FrameError) (read : Result Raw FrameError) (f : Raw)
     → cond none (Err empty) (cond (a && b) read (Err wrong)) ≡ Ok f → (b ≡ true) × (read ≡ Ok f)
 tests_held false true true empty wrong read f e = (refl, e)
 tests_held none a b empty wrong read f e = absurd cc
-
--- bytes that have a first one are not none
-some_bytes : (byte : ℕ) (rest : List ℕ) → eqb (length (byte ∷ rest)) 0 ≡ false
-some_bytes byte rest = grind (arith, nat_tests)
 
 -- ---- spelled, then read
 
@@ -49,13 +39,8 @@ tested_frame_read : (test : ℕ → Bool) (at kind : ℕ) (payload rest : List �
     → value_at kind payload ≡ Some value → tested_frame test at (frame kind payload ++ rest) ≡ Ok (value, at + length (frame kind payload))
 unfolding tested_raw
 tested_frame_read test at kind payload rest value kind_is passes few read =
-    let bytes : List ℕ = frame kind payload ++ rest in
-    let some : eqb (length bytes) 0 ≡ false = some_bytes kind (to_be_bytes w32 (length payload) ++ payload ++ rest) in
-    let f : Raw = record { kind = kind; payload = payload; size = 5 + length payload } in
-    ap (λ (r : Result Raw FrameError). value_of at r)
-    (tests_hold (eqb (length bytes) 0) (is_kind kind) (test kind) (Truncated at) (BadKind at) (raw_of at bytes) some kind_is passes ∙ raw_again at kind payload rest few)
-    ∙ ap (λ (o : Option Frame). valued at f o) read
-    ∙ ap (λ (n : ℕ). Ok (value, at + n)) (sym (length-frame kind payload))
+    let some : eqb (length (frame kind payload ++ rest)) 0 ≡ false = grind (arith, nat_tests) in
+    rw (some, kind_is, passes, raw_again at kind payload rest few, read, length-frame kind payload) refl
 
 -- a spelling has a byte
 pub spelling_some : (value : Frame) (text : List ℕ) → spelling value ≡ Some text → 0 < length text
