@@ -1,5 +1,7 @@
 -- A loop that reads values of one length, one after another: what is read and what is left are all.
-use Rattle.std.proofs.Common.{◌≡◌, ◌∙◌, ℕ, suc, ◌+◌, ◌-◌, ◌<◌, ◌≤◌, List, [], ◌∷◌, ◌++◌, take, drop, refl, sym, ap, ap₂, arith, append_assoc, append-nil}
+use Rattle.std.proofs.Common.{◌≡◌, ◌∙◌, ℕ, suc, ◌+◌, ◌-◌, ◌*◌, ◌<◌, ◌≤◌, List, [], ◌∷◌, ◌++◌, length, take, drop, refl, sym, ap, ap₂, arith, append_assoc, append-nil, length-append}
+use Rattle.std.proofs.Math.Nat.{mul-suc}
+use Rattle.std.proofs.lemmas.List.{length-drop}
 use Rattle.frame_fields.specs.Fields.{split_into}
 
 -- reading one more value reads the first, and then the others
@@ -30,3 +32,22 @@ pub values_end : {A : Type 0} (value : List ℕ → A) (size : ℕ) (all so_far 
 values_end {A} value size all so_far count i rest h done =
     let none : count - i ≡ 0 = omega arith in
     sym (ap (λ (l : List A). so_far ++ l) (ap (λ (k : ℕ). split_into value size k rest) none ∙ values_zero value size rest) ∙ append-nil so_far) ∙ done
+
+-- what a loop holds: what was read, and what is left to read
+abbrev pub Left : {A : Type 0} → (List ℕ → A) → ℕ → ℕ → ℕ → List A → List A → List ℕ → Type 0
+Left value size count i all held rest = record {
+  done : held ++ split_into value size (count - i) rest ≡ all;
+  len : length held ≡ i;
+  left : length rest ≡ size * (count - i);
+}
+
+-- one more value was read
+pub left_next : {A : Type 0} (value : List ℕ → A) (size count i : ℕ) (all held : List A) (x : A) (rest front after : List ℕ) → i < count
+    → front ≡ take size rest → after ≡ drop size rest → x ≡ value front → Left value size count i all held rest → Left value size count (i + 1) all (held ++ x ∷ []) after
+left_next value size count i all held x rest front after h ef ea ex l =
+    let left : count - i ≡ suc (count - (i + 1)) = omega arith in
+    record {
+      done = values_more value size all held x count i rest front after h l.done ef ea ex;
+      len = omega (arith, l.len, length-append held (x ∷ []));
+      left = omega (arith, l.left, ap (λ (n : ℕ). size * n) left, mul-suc size (count - (i + 1)), ap length ea, length-drop size rest);
+    }

@@ -2,10 +2,6 @@
 use Rattle.std.proofs.Common.{◌≡◌, ◌∙◌, ℕ, Bool, true, false, cond, ◌==◌, List, length, Option, None, Some, refl, sym, ap, subst}
 use Rattle.std.proofs.lemmas.Option.{same_Some}
 use Rattle.axis_roots.specs.declared.message.messages.Message as sent
-use Rattle.namespace_id.specs.declared.cells.Cell.{Cell}
-use Rattle.namespace_id.specs.declared.cells.Axis.{Axis}
-use Rattle.namespace_id.specs.declared.shares.Share.{Share}
-use Rattle.namespace_id.specs.declared.digests.Digest.{Digest}
 use Rattle.namespace_id.specs.Sizes.{share_size, most_depth}
 use Rattle.namespace_id.specs.Shares.{share_of}
 use Rattle.frame_fields.specs.Fields.{◌>>=◌, string_at, axis_at, cell_at, path_at}
@@ -25,41 +21,16 @@ given_if : {A : Type 0} (b : Bool) (x y : A) → cond b (Some x) None ≡ Some y
 given_if true x y e = same_Some x y e
 given_if false x y e = absurd cc
 
--- the sample that is read of its fields
-abbrev with_path : Cell → Axis → Share → List Digest × List ℕ → Option (sent.Message × List ℕ)
-with_path cell axis share path = Some (record { cell = cell; axis = axis; share = share; path = path.0 }, path.1)
-
-abbrev with_share : Cell → Axis → List ℕ × List ℕ → Option (sent.Message × List ℕ)
-with_share cell axis share = path_at most_depth share.1 >>= with_path cell axis (share_of share.0)
-
-abbrev with_axis : Cell → Axis × List ℕ → Option (sent.Message × List ℕ)
-with_axis cell axis = string_at share_size axis.1 >>= with_share cell axis.0
-
-abbrev with_cell : Cell × List ℕ → Option (sent.Message × List ℕ)
-with_cell cell = axis_at cell.1 >>= with_axis cell.0
-
-abbrev shown_share : Cell → List ℕ × List ℕ → Option (Cell × Share)
-shown_share cell share = Some (cell, share_of share.0)
-
-abbrev shown_axis : Cell → Axis × List ℕ → Option (Cell × Share)
-shown_axis cell axis = string_at share_size axis.1 >>= shown_share cell
-
-abbrev shown_cell : Cell × List ℕ → Option (Cell × Share)
-shown_cell cell = axis_at cell.1 >>= shown_axis cell.0
-
 -- the front of a sample shows its cell and its share
 front_shown : (bytes : List ℕ) (m : sent.Message) (rest : List ℕ) → message_front bytes ≡ Some (m, rest) → shown_front bytes ≡ Some (m.cell, m.share)
 unfolding message_front shown_front
 front_shown bytes m rest e =
-    let cell = bind_some (cell_at bytes) with_cell (m, rest) e in
-    let axis = bind_some (axis_at cell.0.1) (with_axis cell.0.0) (m, rest) cell.2 in
-    let share = bind_some (string_at share_size axis.0.1) (with_share cell.0.0 axis.0.0) (m, rest) axis.2 in
-    let path = bind_some (path_at most_depth share.0.1) (with_path cell.0.0 axis.0.0 (share_of share.0.0)) (m, rest) share.2 in
+    let cell = bind_some (cell_at bytes) _ (m, rest) e in
+    let axis = bind_some (axis_at cell.0.1) _ (m, rest) cell.2 in
+    let share = bind_some (string_at share_size axis.0.1) _ (m, rest) axis.2 in
+    let path = bind_some (path_at most_depth share.0.1) _ (m, rest) share.2 in
     let same : (record { cell = cell.0.0; axis = axis.0.0; share = share_of share.0.0; path = path.0.0 }, path.0.1) ≡ (m, rest) = same_Some _ _ path.2 in
-    bind_again (cell_at bytes) shown_cell cell.0 (m.cell, m.share) cell.1
-    (bind_again (axis_at cell.0.1) (shown_axis cell.0.0) axis.0 (m.cell, m.share) axis.1
-    (bind_again (string_at share_size axis.0.1) (shown_share cell.0.0) share.0 (m.cell, m.share) share.1
-    (ap (λ (x : sent.Message × List ℕ). Some (x.0.cell, x.0.share)) same)))
+    rw (cell.1, axis.1, share.1) (ap (λ (x : sent.Message × List ℕ). Some (x.0.cell, x.0.share)) same)
 
 -- so does a payload that is one
 pub sample_shown : (bytes : List ℕ) (m : sent.Message) → message_at bytes ≡ Some m → shown_front bytes ≡ Some (m.cell, m.share)

@@ -12,8 +12,6 @@ use Rattle.namespace_id.specs.Sizes.{share_size, digest_size, hash_size}
 use Rattle.namespace_id.specs.Shares.{share_of}
 use Rattle.data_header.specs.Paths.{most_hashes}
 
--- ---- limits
-
 -- ---- fields
 
 -- a reader, and what is read after it; none where the first reads none

@@ -1,6 +1,6 @@
 //! Fields of a payload, read from the front of its bytes.
 
-ghost use Rattle.std.specs.Prelude.{◌≡◌, ◌≤◌, ◌*◌, length, vec_len, IfOk, IfSome};
+ghost use Rattle.std.specs.Prelude.{◌≡◌, ◌<◌, ◌≤◌, ◌+◌, ◌*◌, ◌++◌, ◌∷◌, [], length, vec_len, vec_capacity, IfOk, IfSome};
 ghost use Rattle.std.specs.Int.{w16, w32};
 ghost use Rattle.namespace_id.specs.Answers.{Gives};
 ghost use Rattle.namespace_id.specs.Sizes.{most_depth, most_nodes};
@@ -30,10 +30,7 @@ const HASH_SIZE: usize = 32;
 pub fn u16_at(bytes: &[u8]) -> Option<(u16, &[u8])>
     ensures { Gives (λ x. (x.0, x.1.now)) result (big_endian_at w16 bytes.now) }
 {
-    if bytes.len() < 2 {
-        return None;
-    }
-    let (front, rest) = bytes.split_at(2);
+    let (front, rest) = bytes.split_at_checked(2)?;
     Some((u16::from_be_bytes([front[0], front[1]]), rest))
 }
 
@@ -41,10 +38,7 @@ pub fn u16_at(bytes: &[u8]) -> Option<(u16, &[u8])>
 pub fn u32_at(bytes: &[u8]) -> Option<(u32, &[u8])>
     ensures { Gives (λ x. (x.0, x.1.now)) result (big_endian_at w32 bytes.now) }
 {
-    if bytes.len() < 4 {
-        return None;
-    }
-    let (front, rest) = bytes.split_at(4);
+    let (front, rest) = bytes.split_at_checked(4)?;
     let number = u32::from_be_bytes([front[0], front[1], front[2], front[3]]);
     Some((number, rest))
 }
@@ -103,10 +97,7 @@ fn hash_of(bytes: &[u8]) -> [u8; 32]
 pub fn share_at(bytes: &[u8]) -> Option<(Share, &[u8])>
     ensures { Gives (λ x. (x.0.0, x.1.now)) result (string_at 512 bytes.now) }
 {
-    if bytes.len() < SHARE_SIZE {
-        return None;
-    }
-    let (front, rest) = bytes.split_at(SHARE_SIZE);
+    let (front, rest) = bytes.split_at_checked(SHARE_SIZE)?;
     Some((share_of(front), rest))
 }
 
@@ -114,10 +105,7 @@ pub fn share_at(bytes: &[u8]) -> Option<(Share, &[u8])>
 pub fn name_at(bytes: &[u8]) -> Option<(Namespace, &[u8])>
     ensures { Gives (λ x. (x.0.0, x.1.now)) result (string_at 29 bytes.now) }
 {
-    if bytes.len() < NAMESPACE_SIZE {
-        return None;
-    }
-    let (front, rest) = bytes.split_at(NAMESPACE_SIZE);
+    let (front, rest) = bytes.split_at_checked(NAMESPACE_SIZE)?;
     Some((name_of(front), rest))
 }
 
@@ -125,10 +113,7 @@ pub fn name_at(bytes: &[u8]) -> Option<(Namespace, &[u8])>
 pub fn digest_at(bytes: &[u8]) -> Option<(Digest, &[u8])>
     ensures { Gives (λ x. (x.0.0, x.1.now)) result (string_at 90 bytes.now) }
 {
-    if bytes.len() < DIGEST_SIZE {
-        return None;
-    }
-    let (front, rest) = bytes.split_at(DIGEST_SIZE);
+    let (front, rest) = bytes.split_at_checked(DIGEST_SIZE)?;
     Some((digest_of(front), rest))
 }
 
@@ -136,10 +121,7 @@ pub fn digest_at(bytes: &[u8]) -> Option<(Digest, &[u8])>
 pub fn hash_at(bytes: &[u8]) -> Option<([u8; 32], &[u8])>
     ensures { Gives (λ x. (x.0, x.1.now)) result (string_at 32 bytes.now) }
 {
-    if bytes.len() < HASH_SIZE {
-        return None;
-    }
-    let (front, rest) = bytes.split_at(HASH_SIZE);
+    let (front, rest) = bytes.split_at_checked(HASH_SIZE)?;
     Some((hash_of(front), rest))
 }
 
@@ -161,13 +143,11 @@ pub fn count16_at(bytes: &[u8], limit: u16) -> Option<(u16, &[u8])>
 pub fn digest_list_at(bytes: &[u8], limit: u16) -> Option<(u16, &[u8], &[u8])>
     ensures value { Gives (λ x. (digests_of x.0 x.1.now, x.2.now))
         result (digest_list_at limit bytes.now) }
+    ensures few { IfSome result (λ x. x.0 ≤ limit) }
     ensures all { IfSome result (λ x. length x.1.now ≡ 90 * x.0) }
 {
     let (count, rest) = count16_at(bytes, limit)?;
-    if rest.len() < DIGEST_SIZE * count as usize {
-        return None;
-    }
-    let (digests, rest) = rest.split_at(DIGEST_SIZE * count as usize);
+    let (digests, rest) = rest.split_at_checked(DIGEST_SIZE * count as usize)?;
     Some((count, digests, rest))
 }
 
@@ -189,10 +169,7 @@ pub fn text_at(bytes: &[u8], limit: u32) -> Option<(&[u8], &[u8])>
     ensures { Gives (λ x. (x.0.now, x.1.now)) result (text_at w32 limit bytes.now) }
 {
     let (size, rest) = count_at(bytes, limit)?;
-    if rest.len() < size as usize {
-        return None;
-    }
-    Some(rest.split_at(size as usize))
+    rest.split_at_checked(size as usize)
 }
 
 /// A byte string behind its length of two bytes, at most the limit, and the bytes after it.
@@ -202,10 +179,7 @@ pub fn text16_at(bytes: &[u8], limit: u16) -> Option<(&[u8], &[u8])>
     ensures few { IfSome result (λ x. length x.0.now ≤ limit) }
 {
     let (size, rest) = count16_at(bytes, limit)?;
-    if rest.len() < size as usize {
-        return None;
-    }
-    Some(rest.split_at(size as usize))
+    rest.split_at_checked(size as usize)
 }
 
 /// The axis that a byte is, 0 for a row and 1 for a column, and the bytes after it.
@@ -237,10 +211,7 @@ pub fn shares_at(count: u16, bytes: &[u8]) -> Option<(&[u8], &[u8])>
         result (shares_at count bytes.now) }
     ensures all { IfSome result (λ x. length x.0.now ≡ 512 * count) }
 {
-    if bytes.len() < SHARE_SIZE * count as usize {
-        return None;
-    }
-    Some(bytes.split_at(SHARE_SIZE * count as usize))
+    bytes.split_at_checked(SHARE_SIZE * count as usize)
 }
 
 /// So many shares, one after another, which are all of the bytes.
@@ -259,6 +230,33 @@ pub fn shares_of(alloc: Global, count: usize, bytes: &[u8]) -> Result<Vec<Share>
     Ok(shares)
 }
 
+/// Adds a value, for which there is capacity.
+pub fn add<T: Drop>(list: &mut Vec<T>, value: T)
+    requires room { vec_len list.old < vec_capacity list.old }
+    ensures items { list.new.items ≡ list.old.items ++ value ∷ [] }
+    ensures len { vec_len list.new ≡ vec_len list.old + 1 }
+    ensures capacity { vec_capacity list.old ≤ vec_capacity list.new }
+{
+    list.push(value).unwrap();
+}
+
+/// Adds so many digests, one after another, which are all of the bytes and for which there is capacity.
+#[tactic(auto, using(crate::proofs::SplitLoops::values_end))]
+pub fn fill_digests(list: &mut Vec<Digest>, count: usize, bytes: &[u8])
+    requires all { length bytes.now ≡ 90 * count }
+    requires room { vec_len list.old + count ≤ vec_capacity list.old }
+    ensures items { list.new.items ≡ list.old.items ++ digests_of count bytes.now }
+    ensures len { vec_len list.new ≡ vec_len list.old + count }
+    ensures capacity { vec_capacity list.old ≤ vec_capacity list.new }
+{
+    let mut rest = bytes;
+    for _ in 0..count {
+        let (front, after) = rest.split_at(DIGEST_SIZE);
+        add(list, digest_of(front));
+        rest = after;
+    }
+}
+
 /// So many digests, one after another, which are all of the bytes.
 pub fn digests_of(alloc: Global, count: usize, bytes: &[u8]) -> Result<Vec<Digest>, AllocError>
     requires { length bytes.now ≡ 90 * count }
@@ -266,16 +264,12 @@ pub fn digests_of(alloc: Global, count: usize, bytes: &[u8]) -> Result<Vec<Diges
     ensures len { IfOk result (λ digests. vec_len digests ≡ count) }
 {
     let mut digests = Vec::with_capacity(alloc, count)?;
-    let mut rest = bytes;
-    for _ in 0..count {
-        let (front, after) = rest.split_at(DIGEST_SIZE);
-        digests.push(digest_of(front))?;
-        rest = after;
-    }
+    fill_digests(&mut digests, count, bytes);
     Ok(digests)
 }
 
 /// So many digests, one after another, which are all of the bytes, in a path.
+#[tactic(auto, using(crate::proofs::SplitLoops::values_end))]
 fn path_of(count: u8, bytes: &[u8]) -> Path
     requires few { count ≤ most_depth }
     requires all { length bytes.now ≡ 90 * count }
@@ -292,6 +286,7 @@ fn path_of(count: u8, bytes: &[u8]) -> Path
 }
 
 /// So many digests, one after another, which are all of the bytes, as nodes.
+#[tactic(auto, using(crate::proofs::SplitLoops::values_end))]
 pub fn nodes_of(count: u8, bytes: &[u8]) -> Nodes
     requires few { count ≤ most_nodes }
     requires all { length bytes.now ≡ 90 * count }
@@ -319,10 +314,7 @@ fn digests_at(bytes: &[u8], limit: u8) -> Option<(u8, &[u8], &[u8])>
     if count > limit {
         return None;
     }
-    if rest.len() < DIGEST_SIZE * count as usize {
-        return None;
-    }
-    let (digests, rest) = rest.split_at(DIGEST_SIZE * count as usize);
+    let (digests, rest) = rest.split_at_checked(DIGEST_SIZE * count as usize)?;
     Some((count, digests, rest))
 }
 
@@ -353,6 +345,7 @@ pub fn nodes_at(bytes: &[u8]) -> Option<(Nodes, &[u8])>
 }
 
 /// So many hashes, one after another, which are all of the bytes, in a root path.
+#[tactic(auto, using(crate::proofs::SplitLoops::values_end))]
 fn hashes_of(count: u8, bytes: &[u8]) -> RootPath
     requires few { count ≤ most_hashes }
     requires all { length bytes.now ≡ 32 * count }
@@ -380,10 +373,7 @@ fn hash_list_at(bytes: &[u8]) -> Option<(u8, &[u8], &[u8])>
     if count > HASHES_LIMIT {
         return None;
     }
-    if rest.len() < HASH_SIZE * count as usize {
-        return None;
-    }
-    let (hashes, rest) = rest.split_at(HASH_SIZE * count as usize);
+    let (hashes, rest) = rest.split_at_checked(HASH_SIZE * count as usize)?;
     Some((count, hashes, rest))
 }
 

@@ -1,14 +1,8 @@
-use Rattle.std.proofs.Common.{ℕ, List, arith, length-append, [], ◌∷◌}
-use Rattle.frame_fields.proofs.SplitLoops.{values_more, values_end}
+use Rattle.std.proofs.Common.{ℕ, List}
+use Rattle.frame_fields.proofs.SplitLoops.{left_next}
 use Rattle.frame_fields.proofs.fields.hashes_of.Goals as goal
 
 pub loop-preserved : goal.loop-preserved
-loop-preserved c = record {
-  done = rw c.push.ensures (values_more (λ (hash : List ℕ). hash) 32 _ _ c.hash_of.result c.args.count c.loop.counter c.loop.rest.now c.split_at.result.0.now c.split_at.result.1.now
-      c.loop-test.true c.loop.invariant.done c.split_at.ensures.front c.split_at.ensures.back c.hash_of.ensures);
-  len = rw c.push.ensures (omega (arith, c.loop.invariant.len, length-append c.loop.hashes (c.hash_of.result ∷ [])));
-  left = omega (arith, c.split_at.ensures.back_len, c.loop.invariant.left);
-}
-
-pub returns : goal.returns
-returns c = values_end (λ (hash : List ℕ). hash) 32 _ c.loop.hashes c.args.count c.loop.counter c.loop.rest.now c.loop-test.false c.loop.invariant.done
+loop-preserved c =
+    rw c.push.ensures
+    (left_next (λ (hash : List ℕ). hash) 32 c.args.count c.loop.counter _ c.loop.hashes c.hash_of.result c.loop.rest.now c.split_at.result.0.now c.split_at.result.1.now c.loop-test.true c.split_at.ensures.front c.split_at.ensures.back c.hash_of.ensures c.loop.invariant)
