@@ -1,7 +1,7 @@
 -- Fields of a payload, read from the front of a byte string. A field that is read is a value and the
 -- bytes after it.
 use Rattle.std.specs.Prelude.{ℕ, zero, suc, ◌*◌, List, [], ◌∷◌, length, take, drop, nat_lt, Option, Some, None, if◌then◌else◌, ◌==◌}
-use Rattle.std.specs.Option.{option_map, option_map_or}
+use Rattle.std.specs.Option.{option_map_or}
 use Rattle.std.specs.Int.{Width, w16, byte_len, from_be_bytes}
 use Rattle.namespace_id.specs.declared.cells.Cell.{Cell}
 use Rattle.namespace_id.specs.declared.digests.Digest.{Digest}
@@ -136,7 +136,3 @@ list_at w limit one bytes = do
 -- the values that were read, no values where none could be
 abbrev pub read_items : {A : Type 0} → Option (List A × List ℕ) → List A
 read_items read = option_map_or (λ x. x.0) read []
-
--- the bytes after what was read
-abbrev pub read_rest : {A : Type 0} → Option (A × List ℕ) → Option (List ℕ)
-read_rest read = option_map (λ x. x.1) read

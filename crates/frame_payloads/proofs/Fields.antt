@@ -7,11 +7,9 @@ pub mod Shares
 pub mod Cells
 pub mod Paths
 pub mod Many
-pub mod Headed
 pub mod Texts
 pub mod Lists
 pub mod Lengths
-pub mod Told
 pub mod Short
 pub mod Hashes
 pub mod DigestLists

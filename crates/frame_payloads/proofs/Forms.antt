@@ -21,9 +21,7 @@ pub mod CellParts
 pub mod ClaimCells
 pub mod SetForm
 pub mod FraudForm
-pub mod SetParts
 pub mod ClashForm
-pub mod BlockParts
 pub mod PayloadSizes
 pub mod FraudSizes
 pub mod CellCounts

@@ -1,6 +1,6 @@
 -- A cell that is read is the cell that was written, and a cell that was written is read; the same of cells
 -- one after another.
-use Rattle.std.proofs.Common.{◌≡◌, ◌∙◌, ℕ, zero, suc, ◌+◌, ◌*◌, ◌^◌, ◌≤◌, List, [], ◌∷◌, ◌++◌, length, take, drop, Option, Some, refl, sym, ap, ap₂, arith, length-take-le}
+use Rattle.std.proofs.Common.{◌≡◌, ◌∙◌, ℕ, zero, suc, ◌+◌, ◌*◌, ◌^◌, ◌≤◌, List, [], ◌∷◌, ◌++◌, length, take, drop, Some, refl, sym, ap, ap₂, arith, length-take-le}
 use Rattle.std.specs.Int.{w16, to_be_bytes, from_be_bytes}
 use Rattle.std.specs.List.{flat_map, AllByRecursion}
 use Rattle.std.proofs.lemmas.List.{take-append-drop, length-append, length-drop, drop-drop, nil_from_length}
@@ -8,28 +8,20 @@ use Rattle.namespace_id.specs.declared.cells.Cell.{Cell}
 use Rattle.namespace_id.specs.Bytes.{AreBytes}
 use Rattle.namespace_id.specs.Cells.{cell_in, IsCell}
 use Rattle.namespace_id.proofs.StringLemmas.{AreBytes-take, AreBytes-drop}
-use Rattle.frame_fields.specs.Fields.{◌>>=◌, big_endian_at, cells_of, cell_at}
+use Rattle.frame_fields.specs.Fields.{big_endian_at, cells_of, cell_at}
 use Rattle.frame_payloads.specs.codec.Texts.{cell_bytes}
 use Rattle.frame_payloads.proofs.Fields.Readers.{bind_some, bind_again, Takes, Takes-then, Takes-read}
 use Rattle.frame_payloads.proofs.Fields.Numbers.{wide16, number_takes, number_again}
 
 -- ---- one cell
 
--- what `cell_at` does after each number
-abbrev after_col : ℕ → ℕ × List ℕ → Option (Cell × List ℕ)
-after_col row col = Some (cell_in row col.0, col.1)
-
--- what `cell_at` does after the row
-abbrev after_row : ℕ × List ℕ → Option (Cell × List ℕ)
-after_row row = big_endian_at w16 row.1 >>= after_col row.0
-
 -- a cell that is read is the one that was written
 pub cell_takes : (bytes : List ℕ) (c : Cell) (rest : List ℕ) → AreBytes bytes → cell_at bytes ≡ Some (c, rest) → Takes bytes (cell_bytes c) rest × IsCell c
 unfolding cell_at
 cell_takes bytes c rest fits e =
     let read : Cell × List ℕ = (c, rest) in
-    let a = bind_some (big_endian_at w16 bytes) after_row read e in
-    let b = bind_some (big_endian_at w16 a.0.1) (after_col a.0.0) read a.2 in
+    let a = bind_some (big_endian_at w16 bytes) _ read e in
+    let b = bind_some (big_endian_at w16 a.0.1) _ read a.2 in
     let t = number_takes w16 (2 ^ 16) wide16 bytes a.0.0 a.0.1 fits a.1 in
     let u = number_takes w16 (2 ^ 16) wide16 a.0.1 b.0.0 b.0.1 t.0.rest_fits b.1 in
     Takes-read cell_bytes IsCell bytes (cell_in a.0.0 b.0.0) c b.0.1 rest b.2 (record { row = t.1; col = u.1 })
@@ -41,8 +33,8 @@ unfolding cell_at
 cell_again c rest is =
     let tail : List ℕ = to_be_bytes w16 c.col ++ rest in
     let read : Cell × List ℕ = (c, rest) in
-    let col : after_row (c.row, tail) ≡ Some read = bind_again (big_endian_at w16 tail) (after_col c.row) (c.col, rest) read (number_again w16 (2 ^ 16) wide16 c.col rest is.col) refl in
-    bind_again (big_endian_at w16 (cell_bytes c ++ rest)) after_row (c.row, tail) read (number_again w16 (2 ^ 16) wide16 c.row tail is.row) col
+    bind_again (big_endian_at w16 (cell_bytes c ++ rest)) _ (c.row, tail) read (number_again w16 (2 ^ 16) wide16 c.row tail is.row)
+    (bind_again (big_endian_at w16 tail) _ (c.col, rest) read (number_again w16 (2 ^ 16) wide16 c.col rest is.col) refl)
 
 -- ---- cells one after another
 

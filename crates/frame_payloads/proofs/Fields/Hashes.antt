@@ -1,5 +1,5 @@
 -- Hashes behind their count that are read are those that were written, and hashes that were written are read.
-use Rattle.std.proofs.Common.{◌≡◌, ℕ, ◌+◌, ◌*◌, ◌≤◌, ltb, cond, List, [], ◌∷◌, ◌++◌, length, Option, None, Some, refl, sym, subst, arith, ltb-false, le-ltb}
+use Rattle.std.proofs.Common.{◌≡◌, ℕ, ◌+◌, ◌*◌, ◌≤◌, ltb, List, [], ◌∷◌, ◌++◌, length, Some, refl, sym, subst, arith, ltb-false, le-ltb}
 use Rattle.std.specs.List.{flat_map, AllByRecursion}
 use Rattle.namespace_id.specs.Bytes.{AreBytes, IsString}
 use Rattle.data_header.specs.Paths.{most_hashes}
@@ -23,17 +23,13 @@ length-hash_bytes hashes all =
     let each : length (flat_map text hashes) ≡ 32 * length hashes = length-value_bytes text 32 hashes all in
     omega arith
 
--- what `hashes_at` does after the count
-abbrev after_count : ℕ × List ℕ → Option (List (List ℕ) × List ℕ)
-after_count count = cond (ltb most_hashes count.0) None (values_at text 32 count.0 count.1)
-
 -- hashes that are read are those that were written, and are within the limit
 pub hashes_take : (bytes : List ℕ) (hashes : List (List ℕ)) (rest : List ℕ) → AreBytes bytes → hashes_at bytes ≡ Some (hashes, rest)
     → Takes bytes (hash_bytes hashes) rest × (length hashes ≤ most_hashes) × AllByRecursion (IsString 32) hashes
 unfolding hashes_at
 hashes_take bytes hashes rest fits e =
     let read : List (List ℕ) × List ℕ = (hashes, rest) in
-    let a = bind_some (byte_at bytes) after_count read e in
+    let a = bind_some (byte_at bytes) _ read e in
     let t = byte_takes bytes a.0.0 a.0.1 fits a.1 in
     let b = if_false (ltb most_hashes a.0.0) (values_at text 32 a.0.0 a.0.1) read a.2 in
     let h = values_take text text texts 32 a.0.0 a.0.1 hashes rest t.0.rest_fits b.1 in

@@ -5,9 +5,9 @@ use Rattle.std.specs.List.{flat_map, AllByRecursion}
 use Rattle.std.proofs.lemmas.List.{length-append}
 use Rattle.std.proofs.lemmas.Option.{some_pair_parts}
 use Rattle.namespace_id.specs.Bytes.{AreBytes}
-use Rattle.frame_fields.specs.Fields.{◌>>=◌, count_at, many_at, list_at}
+use Rattle.frame_fields.specs.Fields.{count_at, many_at, list_at}
 use Rattle.frame_payloads.specs.codec.Texts.{list_bytes}
-use Rattle.frame_payloads.proofs.Fields.Readers.{bind_some, bind_again, Takes, Takes-is, Takes-then}
+use Rattle.frame_payloads.proofs.Fields.Readers.{bind_some, Takes, Takes-is, Takes-then}
 use Rattle.frame_payloads.proofs.Fields.Numbers.{IsWide, count_takes, count_again}
 use Rattle.frame_payloads.proofs.Fields.Texts.{IsField}
 
@@ -23,8 +23,8 @@ many_take read text Is field zero bytes xs rest fits e =
     (record { parts = same.1; rest_fits = subst (λ (l : List ℕ). AreBytes l) same.1 fits }, tt, refl)
 many_take {A} read text Is field (suc count) bytes xs rest fits e =
     let all : List A × List ℕ = (xs, rest) in
-    let a = bind_some (read bytes) (λ first. many_at read count first.1 >>= (λ others. Some (first.0 ∷ others.0, others.1))) all e in
-    let b = bind_some (many_at read count a.0.1) (λ others. Some (a.0.0 ∷ others.0, others.1)) all a.2 in
+    let a = bind_some (read bytes) _ all e in
+    let b = bind_some (many_at read count a.0.1) _ all a.2 in
     let same = some_pair_parts (a.0.0 ∷ b.0.0) xs b.0.1 rest b.2 in
     let t = field.takes bytes a.0.0 a.0.1 fits a.1 in
     let u = many_take read text Is field count a.0.1 b.0.0 b.0.1 t.0.rest_fits b.1 in
@@ -39,22 +39,12 @@ unfolding many_at
 many_again read text Is field [] rest all few = refl
 many_again {A} read text Is field (x ∷ xs) rest all few =
     let tail : List ℕ = flat_map text xs ++ rest in
-    let read_all : List A × List ℕ = (x ∷ xs, rest) in
     let sum : length (text x ++ flat_map text xs) ≡ length (text x) + length (flat_map text xs) = length-append (text x) (flat_map text xs) in
     let here : length (text x) < 2 ^ 32 = omega arith in
     let later : length (flat_map text xs) < 2 ^ 32 = omega arith in
-    let joined : flat_map text (x ∷ xs) ++ rest ≡ text x ++ tail = append_assoc (text x) (flat_map text xs) rest in
-    let after : A × List ℕ → Option (List A × List ℕ) = λ first. many_at read (length xs) first.1 >>= (λ others. Some (first.0 ∷ others.0, others.1)) in
-    let others : after (x, tail) ≡ Some read_all =
-    bind_again (many_at read (length xs) tail) (λ (o : List A × List ℕ). Some (x ∷ o.0, o.1)) (xs, rest) read_all (many_again read text Is field xs rest all.1 later) refl in
-    subst (λ (l : List ℕ). (read l >>= after) ≡ Some read_all) (sym joined)
-    (bind_again (read (text x ++ tail)) after (x, tail) read_all (field.again x tail all.0 here) others)
+    rw (append_assoc (text x) (flat_map text xs) rest, field.again x tail all.0 here, many_again read text Is field xs rest all.1 later) refl
 
 -- ---- a list behind its count
-
--- what `list_at` does after the count
-abbrev after_count : {A : Type 0} → (List ℕ → Option (A × List ℕ)) → ℕ × List ℕ → Option (List A × List ℕ)
-after_count read count = many_at read count.0 count.1
 
 -- values that are read stand behind their count, which is within the limit
 pub list_takes : {A : Type 0} (read : List ℕ → Option (A × List ℕ)) (text : A → List ℕ) (Is : A → Type 0) (field : IsField read text Is)
@@ -62,7 +52,7 @@ pub list_takes : {A : Type 0} (read : List ℕ → Option (A × List ℕ)) (text
     → AreBytes bytes → list_at w limit read bytes ≡ Some (xs, rest) → Takes bytes (list_bytes w text xs) rest × AllByRecursion Is xs × (length xs ≤ limit)
 unfolding list_at
 list_takes {A} read text Is field w bound wide limit bytes xs rest fits e =
-    let a = bind_some (count_at w limit bytes) (after_count read) (xs, rest) e in
+    let a = bind_some (count_at w limit bytes) _ (xs, rest) e in
     let t = count_takes w bound wide limit bytes a.0.0 a.0.1 fits a.1 in
     let u = many_take read text Is field a.0.0 a.0.1 xs rest t.0.rest_fits a.2 in
     let both = Takes-then bytes (to_be_bytes w a.0.0) a.0.1 (flat_map text xs) rest t.0 u.0 in
@@ -74,9 +64,4 @@ pub list_again : {A : Type 0} (read : List ℕ → Option (A × List ℕ)) (text
     → AllByRecursion Is xs → length (flat_map text xs) < 2 ^ 32 → length xs < bound → length xs ≤ limit → list_at w limit read (list_bytes w text xs ++ rest) ≡ Some (xs, rest)
 unfolding list_at
 list_again {A} read text Is field w bound wide limit xs rest all short lt few =
-    let count : List ℕ = to_be_bytes w (length xs) in
-    let tail : List ℕ = flat_map text xs ++ rest in
-    let read_all : List A × List ℕ = (xs, rest) in
-    subst (λ (l : List ℕ). (count_at w limit l >>= after_count read) ≡ Some read_all) (sym (append_assoc count (flat_map text xs) rest))
-    (bind_again (count_at w limit (count ++ tail)) (after_count read) (length xs, tail) read_all
-    (count_again w bound wide limit (length xs) tail lt few) (many_again read text Is field xs rest all short))
+    rw (append_assoc (to_be_bytes w (length xs)) (flat_map text xs) rest, count_again w bound wide limit (length xs) (flat_map text xs ++ rest) lt few) (many_again read text Is field xs rest all short)

@@ -1,11 +1,11 @@
 -- Values that are read each where the one before ended: a loop that passes over them, and one that keeps
 -- them.
-use Rattle.std.proofs.Common.{◌≡◌, ◌∙◌, ℕ, zero, suc, ◌+◌, ◌-◌, ◌<◌, ◌≤◌, Bool, eqb, cond, List, [], ◌∷◌, ◌++◌, length, map, Option, Some, None, IsSome, refl, sym, ap, subst, arith, append_assoc, append-nil}
+use Rattle.std.proofs.Common.{◌≡◌, ◌∙◌, ℕ, zero, suc, ◌+◌, ◌-◌, ◌<◌, ◌≤◌, List, [], ◌∷◌, ◌++◌, map, Option, Some, None, IsSome, refl, sym, ap, subst, arith, append_assoc, append-nil}
 use Rattle.std.specs.Option.{option_map}
 use Rattle.std.proofs.lemmas.Option.{same_Some}
 use Rattle.namespace_id.specs.Answers.{Gives}
 use Rattle.std.specs.Int.{Width}
-use Rattle.frame_fields.specs.Fields.{◌>>=◌, count_at, many_at, list_at, read_items, read_rest}
+use Rattle.frame_fields.specs.Fields.{◌>>=◌, count_at, many_at, list_at, read_items}
 
 -- a reader's values with one more before them
 abbrev pub after_first : {A : Type 0} → A → Option (List A × List ℕ) → Option (List A × List ℕ)
@@ -61,23 +61,6 @@ gives_some view (Some x) read e some = refl
 pub gives_value : {X Y : Type 0} (view : X → Y) (answer : Option X) (read : Option Y) (x : X) → Gives view answer read → answer ≡ Some x → read ≡ Some (view x)
 gives_value {X} view answer read x e is = subst (λ (a : Option X). Gives view a read) is e
 
--- a step behind a list that was read
-pub made : {A B : Type 0} (read : Option (List A × List ℕ)) (f : List A × List ℕ → Option B) (rest : List ℕ) → read_rest read ≡ Some rest → (read >>= f) ≡ f (read_items read, rest)
-made None f rest e = absurd cc
-made {A} (Some x) f rest e = ap (λ (l : List ℕ). f (x.0, l)) (same_Some x.1 rest e)
-
--- where a list can't be read, no step behind it is made
-pub not_made : {A B : Type 0} (read : Option (List A × List ℕ)) (f : List A × List ℕ → Option B) → read_rest read ≡ None → (read >>= f) ≡ None
-not_made None f e = refl
-not_made (Some x) f e = absurd cc
-
--- all of it was read, or bytes are left
-pub by_rest : {A : Type 0} (none : Bool) (rest : List ℕ) (x : A) (read : Option A) → eqb (length rest) 0 ≡ none → read ≡ cond (eqb (length rest) 0) (Some x) None
-    → read ≡ cond none (Some x) None
-by_rest none rest x read is e = e ∙ ap (λ (t : Bool). cond t (Some x) None) is
-
--- ---- a loop that passes over them
-
 -- the bytes after a value are there where it is read
 pub rest_some : {A : Type 0} (read : Option (A × List ℕ)) (after : List ℕ) → option_map (λ (x : A × List ℕ). x.1) read ≡ Some after → (x : A) × (read ≡ Some (x, after))
 rest_some None after e = absurd cc
@@ -88,27 +71,6 @@ pub rest_none : {A : Type 0} (read : Option (A × List ℕ)) → option_map (λ 
 rest_none None e = refl
 rest_none (Some r) e = absurd cc
 
--- a value in front changes nothing of the bytes after all
-rest_after_first : {A : Type 0} (x : A) (read : Option (List A × List ℕ)) → read_rest (after_first x read) ≡ read_rest read
-rest_after_first x None = refl
-rest_after_first x (Some r) = refl
-
--- passing over the next value leaves the bytes after all as they are
-pub passed_more : {A : Type 0} (one : List ℕ → Option (A × List ℕ)) (count i : ℕ) (rest : List ℕ) (x : A) (after : List ℕ) (all : Option (List ℕ)) → i < count → one rest ≡ Some (x, after)
-    → read_rest (many_at one (count - i) rest) ≡ all → read_rest (many_at one (count - (i + 1)) after) ≡ all
-passed_more {A} one count i rest x after all h e done =
-    sym (ap (λ (r : Option (List A × List ℕ)). read_rest r) (many_left one count i rest x after h e) ∙ rest_after_first x (many_at one (count - (i + 1)) after)) ∙ done
-
--- where the next value can't be read, there are no bytes after all
-pub passed_none : {A : Type 0} (one : List ℕ → Option (A × List ℕ)) (count i : ℕ) (rest : List ℕ) (all : Option (List ℕ)) → i < count → one rest ≡ None
-    → read_rest (many_at one (count - i) rest) ≡ all → all ≡ None
-passed_none {A} one count i rest all h e done = sym done ∙ ap (λ (r : Option (List A × List ℕ)). read_rest r) (many_none one count i rest h e)
-
--- where none are left, the bytes at hand are those after all
-pub passed_end : {A : Type 0} (one : List ℕ → Option (A × List ℕ)) (count i : ℕ) (rest : List ℕ) (all : Option (List ℕ)) → count ≤ i
-    → read_rest (many_at one (count - i) rest) ≡ all → all ≡ Some rest
-passed_end {A} one count i rest all h done = sym done ∙ ap (λ (r : Option (List A × List ℕ)). read_rest r) (many_done one count i rest h)
-
 -- ---- a loop that keeps them
 
 -- a value may be kept before the others are read
@@ -116,18 +78,41 @@ some_before : {A : Type 0} (xs : List A) (x : A) (read : Option (List A × List 
 some_before xs x None = refl
 some_before {A} xs x (Some r) = ap (λ (l : List A). Some (l, r.1)) (sym (append_assoc xs (x ∷ []) r.0))
 
+-- some values, and those that are left, are all
+abbrev pub Kept : {A : Type 0} → (List ℕ → Option (A × List ℕ)) → ℕ → ℕ → List ℕ → List ℕ → Type 0
+Kept {A} one count i rest bytes = (xs : List A) × (after_some xs (many_at one (count - i) rest) ≡ many_at one count bytes)
+
+-- no values stand before all
+nothing_before : {A : Type 0} (read : Option (List A × List ℕ)) → after_some [] read ≡ read
+nothing_before None = refl
+nothing_before (Some r) = refl
+
+-- at first none are kept
+pub kept_first : {A : Type 0} (one : List ℕ → Option (A × List ℕ)) (count : ℕ) (bytes : List ℕ) → after_some [] (many_at one (count - 0) bytes) ≡ many_at one count bytes
+kept_first one count bytes =
+    let whole : count - 0 ≡ count = omega arith in
+    ap (λ (n : ℕ). after_some [] (many_at one n bytes)) whole ∙ nothing_before (many_at one count bytes)
+
 -- keeping the next value leaves all values as they are
 pub kept_more : {A : Type 0} (one : List ℕ → Option (A × List ℕ)) (count i : ℕ) (rest : List ℕ) (xs : List A) (x : A) (after : List ℕ) (all : Option (List A × List ℕ)) → i < count → one rest ≡ Some (x, after)
     → after_some xs (many_at one (count - i) rest) ≡ all → after_some (xs ++ x ∷ []) (many_at one (count - (i + 1)) after) ≡ all
 kept_more {A} one count i rest xs x after all h e done =
     sym (ap (λ (r : Option (List A × List ℕ)). after_some xs r) (many_left one count i rest x after h e) ∙ some_before xs x (many_at one (count - (i + 1)) after)) ∙ done
 
+-- where the next value can't be read, not all can
+pub kept_none : {A : Type 0} (one : List ℕ → Option (A × List ℕ)) (count i : ℕ) (rest : List ℕ) (xs : List A) (all : Option (List A × List ℕ)) → i < count → one rest ≡ None
+    → after_some xs (many_at one (count - i) rest) ≡ all → all ≡ None
+kept_none {A} one count i rest xs all h e done = sym done ∙ ap (λ (r : Option (List A × List ℕ)). after_some xs r) (many_none one count i rest h e)
+
 -- where none are left, the kept values are all
+pub kept_all : {A : Type 0} (one : List ℕ → Option (A × List ℕ)) (count i : ℕ) (rest : List ℕ) (xs : List A) (all : Option (List A × List ℕ)) → count ≤ i
+    → after_some xs (many_at one (count - i) rest) ≡ all → all ≡ Some (xs, rest)
+kept_all {A} one count i rest xs all h done =
+    sym done ∙ ap (λ (r : Option (List A × List ℕ)). after_some xs r) (many_done one count i rest h) ∙ ap (λ (l : List A). Some (l, rest)) (append-nil xs)
+
 pub kept_end : {A : Type 0} (one : List ℕ → Option (A × List ℕ)) (count i : ℕ) (rest : List ℕ) (xs : List A) (all : Option (List A × List ℕ)) → count ≤ i
     → after_some xs (many_at one (count - i) rest) ≡ all → xs ≡ read_items all
-kept_end {A} one count i rest xs all h done =
-    let whole : all ≡ Some (xs ++ [], rest) = sym done ∙ ap (λ (r : Option (List A × List ℕ)). after_some xs r) (many_done one count i rest h) in
-    sym (ap (λ (r : Option (List A × List ℕ)). read_items r) whole ∙ append-nil xs)
+kept_end {A} one count i rest xs all h done = sym (ap (λ (r : Option (List A × List ℕ)). read_items r) (kept_all one count i rest xs all h done))
 
 -- values that stand behind others were read
 some_read : {A : Type 0} (xs : List A) (read : Option (List A × List ℕ)) → IsSome (after_some xs read) → IsSome read

@@ -1,11 +1,11 @@
 -- A number that is read is the number that was written, and a number that was written is read.
-use Rattle.std.proofs.Common.{Option, ◌≤◌, None, ltb, cond, ltb-false, le-ltb, ◌≡◌, ◌∙◌, ℕ, ◌^◌, ◌<◌, List, ◌++◌, length, take, Some, refl, sym, ap, subst, arith}
+use Rattle.std.proofs.Common.{false, ◌≤◌, ltb, ltb-false, le-ltb, ◌≡◌, ◌∙◌, ℕ, ◌^◌, ◌<◌, List, ◌++◌, length, take, Some, refl, sym, ap, subst, arith}
 use Rattle.std.specs.Int.{Width, w16, w32, w64, byte_len, from_be_bytes, to_be_bytes}
 use Rattle.std.proofs.lemmas.Nat.{be_bytes_2, be_bytes_4, be_bytes_8, from_be_bytes-to_be_bytes_2, from_be_bytes-to_be_bytes_4, from_be_bytes-to_be_bytes_8}
 use Rattle.namespace_id.specs.Bytes.{AreBytes}
 use Rattle.std.proofs.lemmas.Option.{some_pair_parts}
 use Rattle.frame_fields.specs.Fields.{big_endian_at, count_at}
-use Rattle.frame_payloads.proofs.Fields.Readers.{bind_some, bind_again, if_false, if_false_again, Takes, Takes-is, front_takes, front_again}
+use Rattle.frame_payloads.proofs.Fields.Readers.{bind_some, if_false, Takes, Takes-is, front_takes, front_again}
 
 -- numbers below a limit are strings of one length, and back
 pub record IsWide (w : Width) (limit : ℕ) : Type 0 where
@@ -56,32 +56,19 @@ number_again w limit wide n rest lt =
 
 -- ---- a number that has a limit
 
--- what `count_at` does after the number
-abbrev within : ℕ → ℕ × List ℕ → Option (ℕ × List ℕ)
-within limit count = cond (ltb limit count.0) None (Some count)
-
 -- a count that is read is the one that was written, and is within its limit
 pub count_takes : (w : Width) (bound : ℕ) (wide : IsWide w bound) (limit : ℕ) (bytes : List ℕ) (n : ℕ) (rest : List ℕ) → AreBytes bytes → count_at w limit bytes ≡ Some (n, rest)
     → Takes bytes (to_be_bytes w n) rest × (n ≤ limit)
 unfolding count_at
 count_takes w bound wide limit bytes n rest fits e =
-    let a = bind_some (big_endian_at w bytes) (within limit) (n, rest) e in
+    let a = bind_some (big_endian_at w bytes) _ (n, rest) e in
     let g = if_false (ltb limit a.0.0) (Some a.0) (n, rest) a.2 in
     let same = some_pair_parts a.0.0 n a.0.1 rest g.1 in
     ((number_takes w bound wide bytes n rest fits (a.1 ∙ g.1)).0, subst (λ (m : ℕ). m ≤ limit) same.0 (ltb-false limit a.0.0 g.0))
-
--- a count that is read is within its limit
-pub count_few : (w : Width) (limit : ℕ) (bytes : List ℕ) (n : ℕ) (rest : List ℕ) → count_at w limit bytes ≡ Some (n, rest) → n ≤ limit
-unfolding count_at
-count_few w limit bytes n rest e =
-    let a = bind_some (big_endian_at w bytes) (within limit) (n, rest) e in
-    let g = if_false (ltb limit a.0.0) (Some a.0) (n, rest) a.2 in
-    let same = some_pair_parts a.0.0 n a.0.1 rest g.1 in
-    subst (λ (m : ℕ). m ≤ limit) same.0 (ltb-false limit a.0.0 g.0)
 
 -- a count within its limit that was written is read
 pub count_again : (w : Width) (bound : ℕ) (wide : IsWide w bound) (limit n : ℕ) (rest : List ℕ) → n < bound → n ≤ limit → count_at w limit (to_be_bytes w n ++ rest) ≡ Some (n, rest)
 unfolding count_at
 count_again w bound wide limit n rest lt few =
-    bind_again (big_endian_at w (to_be_bytes w n ++ rest)) (within limit) (n, rest) (n, rest) (number_again w bound wide n rest lt)
-    (if_false_again (ltb limit n) (Some (n, rest)) (n, rest) (le-ltb _ _ few) refl)
+    let within : ltb limit n ≡ false = le-ltb _ _ few in
+    rw (number_again w bound wide n rest lt, within) refl

@@ -1,5 +1,5 @@
 -- The fields of a sample that are read are those that were written, and those that were written are read.
-use Rattle.std.proofs.Common.{◌≡◌, ◌∙◌, ℕ, zero, suc, ◌≤◌, false, ltb, eqb, cond, List, [], ◌∷◌, ◌++◌, length, Option, None, Some, refl, sym, ap, ap₂, subst, arith, ltb-false, le-ltb}
+use Rattle.std.proofs.Common.{◌≡◌, ◌∙◌, ℕ, zero, suc, ◌≤◌, false, ltb, eqb, List, [], ◌∷◌, ◌++◌, length, Option, Some, refl, sym, ap, ap₂, subst, arith, ltb-false, le-ltb}
 use Rattle.std.proofs.lemmas.Bool.Decides.{nat_tests}
 use Rattle.std.proofs.lemmas.Option.{some_pair_parts}
 use Rattle.namespace_id.specs.declared.cells.Axis.{Axis}
@@ -41,16 +41,12 @@ axis_again Col rest = refl
 
 -- ---- the path
 
--- what `path_at` does after the count
-abbrev after_count : ℕ → ℕ × List ℕ → Option (List Digest × List ℕ)
-after_count limit count = cond (ltb limit count.0) None (digests_at count.0 count.1)
-
 -- a path that is read is the one that was written, and is within the limit
 pub path_takes : (limit : ℕ) (bytes : List ℕ) (path : List Digest) (rest : List ℕ) → AreBytes bytes → path_at limit bytes ≡ Some (path, rest) → Takes bytes (length path ∷ digest_bytes path) rest × (length path ≤ limit) × AreDigests path
 unfolding path_at
 path_takes limit bytes path rest fits e =
     let read : List Digest × List ℕ = (path, rest) in
-    let a = bind_some (byte_at bytes) (after_count limit) read e in
+    let a = bind_some (byte_at bytes) _ read e in
     let t = byte_takes bytes a.0.0 a.0.1 fits a.1 in
     let b = if_false (ltb limit a.0.0) (digests_at a.0.0 a.0.1) read a.2 in
     let d = digests_take a.0.0 a.0.1 path rest t.0.rest_fits b.1 in

@@ -2,19 +2,13 @@
 -- the front of its bytes.
 use Rattle.std.proofs.Common.{◌≡◌, ◌∙◌, ℕ, ◌≤◌, Bool, true, false, cond, ltb, List, ◌++◌, length, take, drop, Option, None, Some, refl, sym, ap, ap₂, subst, arith, append_assoc, append-nil, length-take-le, ltb-false, le-ltb}
 use Rattle.std.proofs.lemmas.List.{take_at, drop_at, take-append-drop, length-append, nil_from_length}
-use Rattle.std.specs.Option.{option_map, option_map_or}
+use Rattle.std.specs.Option.{option_map}
 use Rattle.std.proofs.lemmas.Option.{some_pair_parts, same_Some}
 use Rattle.namespace_id.specs.Bytes.{AreBytes, IsString}
 use Rattle.namespace_id.proofs.StringLemmas.{AreBytes-take, AreBytes-drop}
-use Rattle.frame_fields.specs.Fields.{◌>>=◌}
 pub use Rattle.frame_fields.proofs.StepLemmas.{bind_some, bind_again}
 
 -- ---- steps
-
--- a step that is made of a value, if there is one
-pub bind_or : {A B : Type 0} (r : Option A) (f : A → Option B) → (r >>= f) ≡ option_map_or f r None
-bind_or None f = refl
-bind_or (Some x) f = refl
 
 -- the value behind a map
 pub map_some : {A B : Type 0} (f : A → B) (r : Option A) (y : B) → option_map f r ≡ Some y → (x : A) × (r ≡ Some x) × (f x ≡ y)

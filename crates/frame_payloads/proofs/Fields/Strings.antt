@@ -1,6 +1,5 @@
 -- A byte or a byte string that is read is what was written, and what was written is read.
-use Rattle.std.proofs.Common.{◌≡◌, ℕ, suc, ◌<◌, ◌≤◌, Bool, cond, List, [], ◌∷◌, ◌++◌, length, take, drop, Option, Some, None, IsSome, refl, sym, ap, ap₂, subst}
-use Rattle.std.proofs.lemmas.Bool.{le-ltb}
+use Rattle.std.proofs.Common.{◌≡◌, ℕ, suc, ◌<◌, List, [], ◌∷◌, ◌++◌, length, take, Some, refl, ap₂, subst}
 use Rattle.std.proofs.lemmas.Option.{some_pair_parts}
 use Rattle.namespace_id.specs.Bytes.{AreBytes, IsString}
 use Rattle.frame_fields.specs.Fields.{byte_at, string_at}
@@ -31,10 +30,3 @@ string_takes size bytes text rest fits e =
 -- a byte string of a known length that was written is read, whatever follows it
 pub string_again : (size : ℕ) (text rest : List ℕ) → length text ≡ size → string_at size (text ++ rest) ≡ Some (text, rest)
 string_again size text rest len = front_again whole size text rest len
-
--- where there are so many bytes, they are read
-pub string_here : (size : ℕ) (bytes : List ℕ) → size ≤ length bytes → string_at size bytes ≡ Some (take size bytes, drop size bytes)
-string_here size bytes long = ap (λ (b : Bool). cond b None (Some (take size bytes, drop size bytes))) (le-ltb (length bytes) size long)
-
-pub string_some : (size : ℕ) (bytes : List ℕ) → size ≤ length bytes → IsSome (string_at size bytes)
-string_some size bytes long = subst (λ (read : Option (List ℕ × List ℕ)). IsSome read) (sym (string_here size bytes long)) refl

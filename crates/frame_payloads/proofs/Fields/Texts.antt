@@ -3,9 +3,9 @@
 use Rattle.std.proofs.Common.{◌≡◌, ℕ, ◌^◌, ◌<◌, ◌≤◌, List, ◌++◌, length, Option, Some, refl, sym, subst, append_assoc}
 use Rattle.std.specs.Int.{Width, to_be_bytes}
 use Rattle.namespace_id.specs.Bytes.{AreBytes}
-use Rattle.frame_fields.specs.Fields.{◌>>=◌, count_at, string_at, text_at}
+use Rattle.frame_fields.specs.Fields.{count_at, text_at}
 use Rattle.frame_payloads.specs.codec.Texts.{text_bytes}
-use Rattle.frame_payloads.proofs.Fields.Readers.{bind_some, bind_again, Takes, Takes-then}
+use Rattle.frame_payloads.proofs.Fields.Readers.{bind_some, Takes, Takes-then}
 use Rattle.frame_payloads.proofs.Fields.Numbers.{IsWide, count_takes, count_again}
 use Rattle.frame_payloads.proofs.Fields.Strings.{string_takes, string_again}
 
@@ -17,16 +17,12 @@ pub record IsField {A : Type 0} (read : List ℕ → Option (A × List ℕ)) (te
 
 -- ---- a byte string behind its length
 
--- what `text_at` does after the length
-abbrev after_size : ℕ × List ℕ → Option (List ℕ × List ℕ)
-after_size size = string_at size.0 size.1
-
 -- a byte string that is read stands behind its length, which is within the limit
 pub text_takes : (w : Width) (bound : ℕ) (wide : IsWide w bound) (limit : ℕ) (bytes text rest : List ℕ) → AreBytes bytes → text_at w limit bytes ≡ Some (text, rest)
     → Takes bytes (text_bytes w text) rest × AreBytes text × (length text ≤ limit)
 unfolding text_at
 text_takes w bound wide limit bytes text rest fits e =
-    let a = bind_some (count_at w limit bytes) after_size (text, rest) e in
+    let a = bind_some (count_at w limit bytes) _ (text, rest) e in
     let t = count_takes w bound wide limit bytes a.0.0 a.0.1 fits a.1 in
     let u = string_takes a.0.0 a.0.1 text rest t.0.rest_fits a.2 in
     let both = Takes-then bytes (to_be_bytes w a.0.0) a.0.1 text rest t.0 u.0 in
@@ -37,7 +33,4 @@ pub text_again : (w : Width) (bound : ℕ) (wide : IsWide w bound) (limit : ℕ)
     → text_at w limit (text_bytes w text ++ rest) ≡ Some (text, rest)
 unfolding text_at
 text_again w bound wide limit text rest lt few =
-    let size : List ℕ = to_be_bytes w (length text) in
-    subst (λ (l : List ℕ). (count_at w limit l >>= after_size) ≡ Some (text, rest)) (sym (append_assoc size text rest))
-    (bind_again (count_at w limit (size ++ (text ++ rest))) after_size (length text, text ++ rest) (text, rest)
-    (count_again w bound wide limit (length text) (text ++ rest) lt few) (string_again (length text) text rest refl))
+    rw (append_assoc (to_be_bytes w (length text)) text rest, count_again w bound wide limit (length text) (text ++ rest) lt few) (string_again (length text) text rest refl)

@@ -1,36 +1,15 @@
 -- A block that is read of a payload is what the payload spells, and the payload that a block has is read.
-use Rattle.std.proofs.Common.{◌≡◌, ℕ, Bool, ◌^◌, ◌<◌, true, false, eqb, cond, List, length, Option, None, Some, IfSome, refl, sym, ap, arith, eqb-true}
+use Rattle.std.proofs.Common.{◌≡◌, ℕ, Bool, ◌^◌, ◌<◌, true, false, eqb, cond, List, Option, None, Some, IfSome, refl, sym, ap, arith, eqb-true}
 use Rattle.std.specs.List.{AllByRecursion}
 use Rattle.share_split.specs.Blobs.{NamedBytes, IsNamed}
 use Rattle.square_layout.specs.Blocks.{BlockParts, IsBlock}
-use Rattle.frame_fields.specs.Fields.{◌>>=◌}
 use Rattle.frame_payloads.specs.kinds.Block.{blob_bytes, width_number, asks_for_zero, block_payload, blob_at, asked_width, block_at}
-use Rattle.frame_payloads.specs.kinds.Units.{unit_at, counted_at, counted_bytes}
+use Rattle.frame_payloads.specs.kinds.Units.{counted_at, counted_bytes}
 use Rattle.frame_payloads.proofs.Forms.Units.{counted_field, units}
 use Rattle.frame_payloads.proofs.Forms.Blobs.{blob_field}
 use Rattle.frame_payloads.proofs.Fields.Fields.{Fields, AreMaps, ◌▸◌, as_field}
 use Rattle.frame_payloads.proofs.Fields.Bases.{number16, field}
 use Rattle.frame_payloads.proofs.Forms.Form.{IsForm, IsSpelled, form_of}
-
--- the block of these lists that asks for the width that a number asks for
-abbrev pub block : ℕ → List (List ℕ) → List (List ℕ) → List NamedBytes → BlockParts
-block width units pay_units blobs = record { units = units; pay_units = pay_units; blobs = blobs; width = asked_width width }
-
--- what `block_at` does after each field
-abbrev pub after_blobs : ℕ → List (List ℕ) → List (List ℕ) → List NamedBytes × List ℕ → Option BlockParts
-after_blobs width units pay_units blobs = cond (eqb (length blobs.1) 0) (Some (block width units pay_units blobs.0)) None
-
--- what `block_at` does after the units of payments
-abbrev pub after_pay_units : ℕ → List (List ℕ) → List (List ℕ) × List ℕ → Option BlockParts
-after_pay_units width units pay_units = counted_at blob_at pay_units.1 >>= after_blobs width units pay_units.0
-
--- what `block_at` does after the units
-abbrev pub after_units : ℕ → List (List ℕ) × List ℕ → Option BlockParts
-after_units width units = counted_at unit_at units.1 >>= after_pay_units width units.0
-
--- what `block_at` does after the width
-abbrev pub after_width : ℕ × List ℕ → Option BlockParts
-after_width width = counted_at unit_at width.1 >>= after_units width.0
 
 -- blobs behind their count are a field
 abbrev blobs : Fields BlockParts (List NamedBytes)

@@ -1,11 +1,7 @@
 -- A commitment proof that is read of a payload is what the payload spells, and the payload that one has is read.
-use Rattle.std.proofs.Common.{◌≡◌, ◌∙◌, ℕ, Bool, eqb, cond, List, length, Option, None, Some, refl, arith}
-use Rattle.std.specs.Int.{w16, w32}
+use Rattle.std.proofs.Common.{ℕ, List, refl, arith}
 use Rattle.blob_commit.specs.Proofs.{RowParts, CommitParts}
-use Rattle.frame_fields.specs.Fields.{◌>>=◌, big_endian_at, string_at, read_items, read_rest}
-use Rattle.frame_payloads.specs.kinds.Commit.{most_rows, IsRowSent, IsCommitSent, is_long_row, is_long_commit, row_bytes, commit_payload, row_at, rows_at, commit_at}
-use Rattle.frame_payloads.proofs.Fields.Many.{made, by_rest}
-use Rattle.frame_payloads.proofs.Fields.Headed.{ended}
+use Rattle.frame_payloads.specs.kinds.Commit.{most_rows, IsRowSent, IsCommitSent, is_long_row, is_long_commit, row_bytes, commit_payload, row_at, commit_at}
 use Rattle.frame_payloads.proofs.Fields.Fields.{AreMaps, ◌▸◌}
 use Rattle.frame_payloads.proofs.Fields.Bases.{number16, number32, string, short_list16}
 use Rattle.frame_payloads.proofs.Forms.Rows.{row_field}
@@ -14,17 +10,6 @@ use Rattle.frame_payloads.proofs.Forms.Form.{IsForm, IsSpelled, form_of}
 -- the proof of these fields
 abbrev pub commit : ℕ → ℕ → ℕ → List ℕ → List RowParts → CommitParts
 commit k start count commitment rows = record { k = k; start = start; count = count; commitment = commitment; rows = rows }
-
--- behind the front, the rows are read next
-pub front_is : (payload : List ℕ) (k start count : ℕ) (commitment a b d rows : List ℕ) → big_endian_at w16 payload ≡ Some (k, a) → big_endian_at w32 a ≡ Some (start, b)
-    → big_endian_at w32 b ≡ Some (count, d) → string_at 32 d ≡ Some (commitment, rows) → commit_at payload ≡ (rows_at rows >>= ended (commit k start count commitment))
-unfolding commit_at
-front_is payload k start count commitment a b d rows e0 e1 e2 e3 = rw (e0, e1, e2, e3) refl
-
--- behind the rows there is a proof where no byte is left
-pub from_rest : (read : Option CommitParts) (make : List RowParts → CommitParts) (rows rest : List ℕ) (none : Bool) → read ≡ (rows_at rows >>= ended make) → read_rest (rows_at rows) ≡ Some rest
-    → eqb (length rest) 0 ≡ none → read ≡ cond none (Some (make (read_items (rows_at rows)))) None
-from_rest read make rows rest none e r is = by_rest none rest (make (read_items (rows_at rows))) read is (e ∙ made (rows_at rows) (ended make) rest r)
 
 -- a commitment proof is a width, a first index, a number of shares, a commitment, and rows
 maps : AreMaps {R = CommitParts} (number16 ▸ number32 ▸ number32 ▸ string 32 ▸ short_list16 most_rows (omega arith) row_at row_bytes IsRowSent is_long_row row_field)

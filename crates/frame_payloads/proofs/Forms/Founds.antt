@@ -1,5 +1,5 @@
 -- What is found in a row and read is what was written, and what was written is read.
-use Rattle.std.proofs.Common.{◌≡◌, ℕ, ◌^◌, ◌<◌, ◌≤◌, false, List, ◌++◌, length, Option, Some, refl, inl, inr, sym, subst, arith, ltb-false, le-ltb}
+use Rattle.std.proofs.Common.{◌≡◌, ℕ, ◌^◌, ◌<◌, ◌≤◌, false, List, ◌++◌, length, Some, refl, inl, inr, sym, subst, arith, ltb-false, le-ltb}
 use Rattle.std.specs.Prelude.{◌⊎◌}
 use Rattle.std.specs.Int.{w16, to_be_bytes}
 use Rattle.namespace_id.specs.declared.digests.Digest.{Digest}
@@ -9,10 +9,10 @@ use Rattle.namespace_id.specs.Shares.{AreShares, share_bytes}
 use Rattle.axis_roots.specs.declared.answers.Found.{Found}
 use Rattle.axis_roots.specs.declared.answers.Found.TheVariants.{Range, Absence}
 use Rattle.axis_roots.specs.Answers.{IsFound}
-use Rattle.frame_fields.specs.Fields.{count_at, shares_at}
+use Rattle.frame_fields.specs.Fields.{count_at}
 use Rattle.namespace_id.specs.Sizes.{most_nodes}
 use Rattle.frame_payloads.specs.kinds.Names.{most_shares_shown, is_long_found, share_list_bytes, found_bytes, share_list_at, range_at, absence_at, found_at}
-use Rattle.frame_payloads.proofs.Fields.Readers.{bind_some, bind_again, Takes, Takes-then}
+use Rattle.frame_payloads.proofs.Fields.Readers.{bind_some, Takes, Takes-then}
 use Rattle.frame_payloads.proofs.Fields.Numbers.{wide16, count_takes, count_again}
 use Rattle.frame_payloads.proofs.Fields.Shares.{shares_take, shares_again}
 use Rattle.frame_payloads.proofs.Fields.Fields.{Fields, ◌▸◌, one, either, as_field, field_of}
@@ -25,16 +25,12 @@ IsWritable found = IsFound found × (is_long_found found ≡ false)
 
 -- ---- shares behind their count
 
--- what `share_list_at` does after the count
-abbrev after_count : ℕ × List ℕ → Option (List Share × List ℕ)
-after_count count = shares_at count.0 count.1
-
 -- shares that are read behind their count are those that were written, and are within the limit
 share_list_takes : (bytes : List ℕ) (shares : List Share) (rest : List ℕ) → AreBytes bytes → share_list_at bytes ≡ Some (shares, rest)
     → Takes bytes (share_list_bytes shares) rest × AreShares shares × (length shares ≤ most_shares_shown)
 unfolding share_list_at
 share_list_takes bytes shares rest fits e =
-    let a = bind_some (count_at w16 most_shares_shown bytes) after_count (shares, rest) e in
+    let a = bind_some (count_at w16 most_shares_shown bytes) _ (shares, rest) e in
     let t = count_takes w16 (2 ^ 16) wide16 most_shares_shown bytes a.0.0 a.0.1 fits a.1 in
     let u = shares_take a.0.0 a.0.1 shares rest t.0.rest_fits a.2 in
     let both = Takes-then bytes (to_be_bytes w16 a.0.0) a.0.1 (share_bytes shares) rest t.0 u.0 in
@@ -44,9 +40,7 @@ share_list_takes bytes shares rest fits e =
 share_list_again : (shares : List Share) (rest : List ℕ) → AreShares shares → length shares ≤ most_shares_shown → share_list_at (share_list_bytes shares ++ rest) ≡ Some (shares, rest)
 unfolding share_list_at
 share_list_again shares rest all few =
-    let tail : List ℕ = share_bytes shares ++ rest in
-    bind_again (count_at w16 most_shares_shown (to_be_bytes w16 (length shares) ++ tail)) after_count (length shares, tail) (shares, rest)
-    (count_again w16 (2 ^ 16) wide16 most_shares_shown (length shares) tail (omega arith) few) (shares_again shares rest all)
+    rw (count_again w16 (2 ^ 16) wide16 most_shares_shown (length shares) (share_bytes shares ++ rest) (omega arith) few) (shares_again shares rest all)
 
 -- ---- what is found
 

@@ -9,10 +9,9 @@ use Rattle.namespace_id.specs.Bytes.{AreBytes}
 use Rattle.axis_roots.specs.Sets.{is_along}
 use Rattle.axis_roots.specs.Claims.{ClaimParts, IsClaim}
 use Rattle.frame_payloads.specs.codec.Texts.{list_bytes, digest_list}
-use Rattle.frame_payloads.specs.kinds.Fraud.{most_cells, most_set_nodes, is_cell_placed, fits_form, is_unwritten, cell_payload, plain_payload, set_payload, payload_by, fraud_payload, accused_at, claim_cells_at, plain_at, with_set_at, either, fraud_at}
-use Rattle.frame_payloads.proofs.Fields.Headed.{no_head}
+use Rattle.frame_payloads.specs.kinds.Fraud.{most_cells, most_set_nodes, is_cell_placed, fits_form, is_unwritten, cell_payload, plain_payload, set_payload, payload_by, fraud_payload, accused_at, plain_at, with_set_at, either, fraud_at}
 use Rattle.frame_payloads.proofs.Forms.AccusedForm.{text, accused_other}
-use Rattle.frame_payloads.proofs.Forms.PlainForm.{IsPlain, plain_is, plain_takes, plain_again}
+use Rattle.frame_payloads.proofs.Forms.PlainForm.{IsPlain, plain_takes, plain_again}
 use Rattle.frame_payloads.proofs.Forms.PlainForm.{claim as plain_claim}
 use Rattle.frame_payloads.proofs.Forms.SetForm.{claim as set_claim}
 use Rattle.frame_payloads.proofs.Forms.SetForm.{IsWith, with_set_takes, with_set_again}
@@ -93,12 +92,13 @@ fraud_takes payload x fits e = elim (either_one (plain_at payload) (with_set_at 
 
 -- the payload of a claim with a set is none of a claim without one
 other_form : (claim : ClaimParts) (nodes : List Digest) → plain_at (set_payload claim nodes) ≡ None
+unfolding plain_at
 other_form claim nodes =
     let list : List ℕ = list_bytes w16 (cell_payload claim.axis) claim.cells in
     let front : List ℕ = text 2 (claim.axis, claim.index) in
     let none : accused_at 1 (set_payload claim nodes) ≡ None =
     ap (accused_at 1) (append_assoc front list (digest_list nodes)) ∙ accused_other 1 2 (claim.axis, claim.index) (list ++ digest_list nodes) refl in
-    plain_is (set_payload claim nodes) ∙ no_head claim_cells_at plain_claim (accused_at 1 (set_payload claim nodes)) none
+    rw none refl
 
 -- the payload of a claim that can be written is read as the claim, by whether it has a set
 again_by : (x : ClaimParts) (set : Option (List Digest)) → x.set ≡ set → IsClaim x → fits_form x set ≡ true → length x.cells ≤ most_cells → length (payload_by x set) < 2 ^ 32

@@ -1,5 +1,5 @@
 -- A header that is read of a payload is what the payload spells, and the payload that a header has is read.
-use Rattle.std.proofs.Common.{refl, ◌≡◌, ◌∙◌, ℕ, ◌+◌, ◌*◌, ◌^◌, ◌≤◌, true, not, eqb, cond, List, ◌++◌, length, take, drop, Option, None, Some, sym, ap, ap₂, subst, arith, length-take-le, eqb-true, eq-eqb}
+use Rattle.std.proofs.Common.{refl, ◌≡◌, ◌∙◌, ℕ, ◌+◌, ◌*◌, ◌^◌, ◌≤◌, true, not, eqb, cond, List, ◌++◌, length, take, drop, None, Some, sym, ap, ap₂, subst, arith, length-take-le, eqb-true, eq-eqb}
 use Rattle.std.specs.Int.{w16, to_be_bytes}
 use Rattle.std.proofs.lemmas.Bool.{not-false, not_from_true}
 use Rattle.std.proofs.lemmas.List.{take_at, drop_at, take-append-drop, length-append, length-drop}
@@ -27,10 +27,6 @@ roots k rows cols = record { k = k; rows = rows; cols = cols }
 abbrev roots_in : ℕ → List ℕ → Roots
 roots_in k bytes = roots k (digests_of (2 * k) (take (180 * k) bytes)) (digests_of (2 * k) (drop (180 * k) bytes))
 
--- what `header_at` does after the width
-abbrev after_width : ℕ × List ℕ → Option Roots
-after_width k = cond (not (is_width k.0)) None (cond (eqb (length k.1) (360 * k.0)) (Some (roots_in k.0 k.1)) None)
-
 -- ---- read
 
 -- a width and the bytes of its roots are a header, and spell it
@@ -54,7 +50,7 @@ is_header k bytes width fits len =
 pub header_takes : (payload : List ℕ) (h : Roots) → AreBytes payload → header_at payload ≡ Some h → IsHeader h × (payload ≡ header_payload h)
 unfolding header_at
 header_takes payload h fits e =
-    let a = bind_some (big_endian_at w16 payload) after_width h e in
+    let a = bind_some (big_endian_at w16 payload) _ h e in
     let t = number_takes w16 (2 ^ 16) wide16 payload a.0.0 a.0.1 fits a.1 in
     let b = if_false (not (is_width a.0.0)) (cond (eqb (length a.0.1) (360 * a.0.0)) (Some (roots_in a.0.0 a.0.1)) None) h a.2 in
     let g = cond_some (eqb (length a.0.1) (360 * a.0.0)) (roots_in a.0.0 a.0.1) h b.1 in
@@ -86,7 +82,7 @@ header_again h is =
     let rows : digests_of (2 * h.k) (take (180 * h.k) (body h)) ≡ h.rows = digests_of-spelled (2 * h.k) (take (180 * h.k) (body h)) h.rows is.rows is.roots.rows front in
     let cols : digests_of (2 * h.k) (drop (180 * h.k) (body h)) ≡ h.cols = digests_of-spelled (2 * h.k) (drop (180 * h.k) (body h)) h.cols is.cols is.roots.cols behind in
     let same : roots_in h.k (body h) ≡ h = ap₂ (λ (r c : List Digest). roots h.k r c) rows cols in
-    bind_again (big_endian_at w16 (header_payload h)) after_width (h.k, body h) h
+    bind_again (big_endian_at w16 (header_payload h)) _ (h.k, body h) h
     (number_again w16 (2 ^ 16) wide16 h.k (body h) (omega (arith, few)))
     (if_false_again (not (is_width h.k)) (cond (eqb (length (body h)) (360 * h.k)) (Some (roots_in h.k (body h))) None) h (not_from_true (is_width h.k) is.roots.width)
     (if_true_again (eqb (length (body h)) (360 * h.k)) (Some (roots_in h.k (body h))) h

@@ -10,7 +10,7 @@ use Rattle.namespace_id.specs.Bytes.{AreBytes}
 use Rattle.namespace_id.specs.Cells.{is_width, is_in_square, is_before, are_cells, CellList, AreCells, IsCell}
 use Rattle.namespace_id.specs.Lists.{holds_along}
 use Rattle.namespace_id.specs.Sizes.{greatest_width}
-use Rattle.frame_fields.specs.Fields.{◌>>=◌, big_endian_at, cells_of}
+use Rattle.frame_fields.specs.Fields.{big_endian_at, cells_of}
 use Rattle.frame_payloads.specs.codec.Texts.{cell_bytes}
 use Rattle.frame_payloads.specs.kinds.Missing.{missing_payload, missing_at}
 use Rattle.frame_payloads.proofs.Fields.Readers.{bind_some, bind_again, if_false, if_false_again, if_true_again, Takes, Takes-then}
@@ -22,16 +22,6 @@ use Rattle.frame_payloads.proofs.Forms.Form.{IsForm}
 -- the list of cells of the square of this width
 abbrev cell_list : ℕ → List Cell → CellList
 cell_list k list = record { k = k; list = list }
-
--- what `missing_at` does after each number
-abbrev after_count : ℕ → ℕ × List ℕ → Option CellList
-after_count k count =
-    cond (eqb count.0 0 || not (eqb (length count.1) (4 * count.0))) None
-    (cond (are_cells k (cells_of count.0 count.1)) (Some (cell_list k (cells_of count.0 count.1))) None)
-
--- what `missing_at` does after the width
-abbrev after_width : ℕ × List ℕ → Option CellList
-after_width k = big_endian_at w32 k.1 >>= after_count k.0
 
 -- ---- read
 
@@ -51,8 +41,8 @@ pub missing_takes : (payload : List ℕ) (cells : CellList) → AreBytes payload
     → AreCells cells × (payload ≡ missing_payload cells) × (eqb (length cells.list) 0 ≡ false)
 unfolding missing_at
 missing_takes payload cells fits e =
-    let a = bind_some (big_endian_at w16 payload) after_width cells e in
-    let b = bind_some (big_endian_at w32 a.0.1) (after_count a.0.0) cells a.2 in
+    let a = bind_some (big_endian_at w16 payload) _ cells e in
+    let b = bind_some (big_endian_at w32 a.0.1) _ cells a.2 in
     let t = number_takes w16 (2 ^ 16) wide16 payload a.0.0 a.0.1 fits a.1 in
     let u = number_takes w32 (2 ^ 32) wide32 a.0.1 b.0.0 b.0.1 t.0.rest_fits b.1 in
     let read : Option CellList = cond (are_cells a.0.0 (cells_of b.0.0 b.0.1)) (Some (cell_list a.0.0 (cells_of b.0.0 b.0.1))) None in
@@ -92,10 +82,10 @@ missing_again cells are some few =
     if_true_again (are_cells cells.k (cells_of count bytes)) (Some (cell_list cells.k (cells_of count bytes))) cells
     (subst (λ (l : List Cell). are_cells cells.k l ≡ true) (sym same) are) (ap (λ (l : List Cell). Some (cell_list cells.k l)) same) in
     let tests : (eqb count 0 || not (eqb (length bytes) (4 * count))) ≡ false = or_from (eqb count 0) (not (eqb (length bytes) (4 * count))) some (not_from_true (eqb (length bytes) (4 * count)) len) in
-    let counted : after_count cells.k (count, bytes) ≡ Some cells = if_false_again (eqb count 0 || not (eqb (length bytes) (4 * count))) read cells tests cells_read in
     let tail : List ℕ = to_be_bytes w32 count ++ bytes in
-    bind_again (big_endian_at w16 (missing_payload cells)) after_width (cells.k, tail) cells (number_again w16 (2 ^ 16) wide16 cells.k tail (omega (arith, narrow)))
-    (bind_again (big_endian_at w32 tail) (after_count cells.k) (count, bytes) cells (number_again w32 (2 ^ 32) wide32 count bytes few) counted)
+    bind_again (big_endian_at w16 (missing_payload cells)) _ (cells.k, tail) cells (number_again w16 (2 ^ 16) wide16 cells.k tail (omega (arith, narrow)))
+    (bind_again (big_endian_at w32 tail) _ (count, bytes) cells (number_again w32 (2 ^ 32) wide32 count bytes few)
+    (if_false_again (eqb count 0 || not (eqb (length bytes) (4 * count))) read cells tests cells_read))
 
 -- the payload of missing cells has six bytes, and four for each cell
 pub length-missing : (cells : CellList) → 6 + 4 * length cells.list ≡ length (missing_payload cells)

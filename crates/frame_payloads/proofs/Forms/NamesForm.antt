@@ -1,13 +1,11 @@
 -- A namespace answer that is read of a payload is what the payload spells, and the payload that one has is
 -- read.
-use Rattle.std.proofs.Common.{◌≡◌, ℕ, List, refl, arith}
+use Rattle.std.proofs.Common.{List, refl, arith}
 use Rattle.namespace_id.specs.declared.namespaces.Namespace.{Namespace}
 use Rattle.axis_roots.specs.declared.answers.NsEntry.{NsEntry}
 use Rattle.namespace_id.specs.Names.{IsNamespace}
 use Rattle.axis_roots.specs.Answers.{IsEntry, AreEntries}
-use Rattle.frame_fields.specs.Fields.{string_at}
-use Rattle.frame_payloads.specs.kinds.Names.{most_entries, is_long_entry, is_long_answer, entry_bytes, names_payload, entry_at, entries_at, names_at}
-use Rattle.frame_payloads.proofs.Fields.Headed.{headed}
+use Rattle.frame_payloads.specs.kinds.Names.{most_entries, is_long_entry, is_long_answer, entry_bytes, names_payload, entry_at, names_at}
 use Rattle.frame_payloads.proofs.Fields.Fields.{AreMaps, ◌▸◌}
 use Rattle.frame_payloads.proofs.Fields.Bases.{name29, short_list16}
 use Rattle.frame_payloads.proofs.Forms.Entries.{entry_field}
@@ -16,15 +14,6 @@ use Rattle.frame_payloads.proofs.Forms.Form.{IsForm, IsSpelled, form_of}
 -- a namespace and what is found of it
 abbrev pub Named : Type 0
 Named = Namespace × List NsEntry
-
--- the namespace of these bytes and what is found of it
-abbrev pub named : List ℕ → List NsEntry → Named
-named name entries = (record { 0 = name }, entries)
-
--- a payload is read as a namespace and entries that end it
-pub names_is : (payload : List ℕ) → names_at payload ≡ headed entries_at named (string_at 29 payload)
-unfolding names_at
-names_is payload = refl
 
 -- a namespace and entries of their types
 abbrev pub AreNamed : Named → Type 0

@@ -7,8 +7,7 @@ use Rattle.axis_roots.specs.Messages.{IsMessage}
 use Rattle.axis_roots.specs.Claims.{ClaimParts, IsClaim}
 use Rattle.frame_fields.specs.Messages.{message_front}
 use Rattle.frame_payloads.specs.kinds.Message.{message_payload}
-use Rattle.frame_payloads.specs.kinds.Fraud.{most_cells, plain_payload, accused_at, claim_cells_at, plain_at}
-use Rattle.frame_payloads.proofs.Fields.Headed.{headed}
+use Rattle.frame_payloads.specs.kinds.Fraud.{most_cells, plain_payload, accused_at, plain_at}
 use Rattle.frame_payloads.proofs.Fields.Fields.{Fields, AreMaps, ◌▸◌, as_field, ended_takes, ended_again}
 use Rattle.frame_payloads.proofs.Fields.Bases.{list16, field}
 use Rattle.frame_payloads.proofs.Forms.MessageForm.{message_field}
@@ -17,11 +16,6 @@ use Rattle.frame_payloads.proofs.Forms.AccusedForm.{Accused, IsAccused, text, ac
 -- the claim without a set that accuses an axis by these samples
 abbrev pub claim : Accused → List Message → ClaimParts
 claim accused cells = record { axis = accused.0; index = accused.1; cells = cells; set = None }
-
--- a payload is read as an accused axis and samples that end it
-pub plain_is : (payload : List ℕ) → plain_at payload ≡ headed claim_cells_at claim (accused_at 1 payload)
-unfolding plain_at
-plain_is payload = refl
 
 -- what a payload that is read as a claim without a set tells
 pub record IsPlain (payload : List ℕ) (x : ClaimParts) : Type 0 where

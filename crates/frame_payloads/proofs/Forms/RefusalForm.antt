@@ -4,7 +4,7 @@ use Rattle.std.specs.Prelude.{⊤}
 use Rattle.std.specs.Int.{w64}
 use Rattle.std.proofs.lemmas.Option.{same_Some, some_pair_parts}
 use Rattle.namespace_id.specs.Bytes.{AreBytes}
-use Rattle.frame_fields.specs.Fields.{◌>>=◌, byte_at}
+use Rattle.frame_fields.specs.Fields.{byte_at}
 use Rattle.frame_payloads.specs.declared.refusals.Reason.{Reason}
 use Rattle.frame_payloads.specs.declared.refusals.Reason.TheVariants.{NoSuchFrame, FirstCheck, SecondCheck, ThirdCheck, FourthCheck, NoAnswer}
 use Rattle.frame_payloads.specs.declared.refusals.Refusal.{Refusal}
@@ -34,19 +34,12 @@ reason_is byte found e =
     by_byte (eqb byte 4) byte FourthCheck found _ refl e4 (λ e5.
     by_byte (eqb byte 5) byte NoAnswer found None refl e5 (λ e6. absurd cc))))))
 
--- what `reason_at` does after the byte, and after the reason
-abbrev with_rest : List ℕ → Reason → Option (Reason × List ℕ)
-with_rest rest reason = Some (reason, rest)
-
-abbrev after_byte : ℕ × List ℕ → Option (Reason × List ℕ)
-after_byte byte = reason_of byte.0 >>= with_rest byte.1
-
 -- a reason that is read is the one that was written
 reason_takes : (bytes : List ℕ) (reason : Reason) (rest : List ℕ) → AreBytes bytes → reason_at bytes ≡ Some (reason, rest) → Takes bytes (reason_byte reason ∷ []) rest × ⊤
 unfolding reason_at
 reason_takes bytes reason rest fits e =
-    let a = bind_some (byte_at bytes) after_byte (reason, rest) e in
-    let b = bind_some (reason_of a.0.0) (with_rest a.0.1) (reason, rest) a.2 in
+    let a = bind_some (byte_at bytes) _ (reason, rest) e in
+    let b = bind_some (reason_of a.0.0) _ (reason, rest) a.2 in
     let same = some_pair_parts b.0 reason a.0.1 rest b.2 in
     let t = byte_takes bytes a.0.0 a.0.1 fits a.1 in
     let text : a.0.0 ∷ [] ≡ reason_byte reason ∷ [] = ap (λ (n : ℕ). n ∷ []) (reason_is a.0.0 b.0 b.1 ∙ ap (λ (r : Reason). reason_byte r) same.0) in

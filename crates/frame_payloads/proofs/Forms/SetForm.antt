@@ -1,5 +1,5 @@
 -- A claim with a set that is read of a payload is what the payload spells, and the payload that one has is read.
-use Rattle.std.proofs.Common.{◌≡◌, ◌∙◌, ℕ, ◌+◌, ◌^◌, ◌<◌, ◌≤◌, true, eqb, cond, ◌&&◌, List, [], ◌++◌, length, Option, None, Some, refl, sym, subst, arith, append-nil, append_assoc, eqb-true}
+use Rattle.std.proofs.Common.{◌≡◌, ℕ, ◌+◌, ◌^◌, ◌<◌, ◌≤◌, true, eqb, ◌&&◌, List, [], ◌++◌, length, Some, refl, subst, arith, append-nil, append_assoc, eqb-true}
 use Rattle.std.specs.Int.{w16}
 use Rattle.std.specs.List.{list_all, list_any}
 use Rattle.std.proofs.lemmas.Bool.{and_parts}
@@ -10,10 +10,10 @@ use Rattle.namespace_id.specs.Bytes.{AreBytes}
 use Rattle.axis_roots.specs.declared.message.messages.Message.{Message}
 use Rattle.axis_roots.specs.Sets.{is_along}
 use Rattle.axis_roots.specs.Claims.{ClaimParts, IsClaim}
-use Rattle.frame_fields.specs.Fields.{◌>>=◌, digest_list_at}
+use Rattle.frame_fields.specs.Fields.{digest_list_at}
 use Rattle.frame_payloads.specs.codec.Texts.{list_bytes, digest_list}
 use Rattle.frame_payloads.specs.kinds.Fraud.{most_cells, most_set_nodes, cell_payload, set_payload, accused_at, set_cell_at, set_cells_at, with_set_at}
-use Rattle.frame_payloads.proofs.Fields.Readers.{bind_some, bind_again, if_true_again, Takes-then, Takes-all}
+use Rattle.frame_payloads.proofs.Fields.Readers.{bind_some, Takes-then, Takes-all}
 use Rattle.frame_payloads.proofs.Fields.Numbers.{wide16}
 use Rattle.frame_payloads.proofs.Fields.DigestLists.{digest_list_takes, digest_list_again}
 use Rattle.frame_payloads.proofs.Fields.Lists.{list_takes, list_again}
@@ -25,23 +25,6 @@ use Rattle.frame_payloads.proofs.Forms.ClaimCells.{is_at, IsSetCell, set_cell_fi
 -- the claim with this set that accuses an axis by these cells
 abbrev pub claim : Accused → List Message → List Digest → ClaimParts
 claim accused cells nodes = record { axis = accused.0; index = accused.1; cells = cells; set = Some nodes }
-
--- what `with_set_at` does after the nodes
-abbrev pub after_nodes : Accused → List Message → List Digest × List ℕ → Option ClaimParts
-after_nodes accused cells nodes = cond (eqb (length nodes.1) 0 && list_any (is_along accused.0) cells) (Some (claim accused cells nodes.0)) None
-
--- what `with_set_at` does after the cells
-abbrev pub after_cells : Accused → List Message × List ℕ → Option ClaimParts
-after_cells accused cells = digest_list_at most_set_nodes cells.1 >>= after_nodes accused cells.0
-
--- what `with_set_at` does after the accused axis
-abbrev pub after_accused : Accused × List ℕ → Option ClaimParts
-after_accused accused = set_cells_at accused.0.0 accused.0.1 accused.1 >>= after_cells accused.0
-
--- a payload is read as an accused axis, cells and nodes that end it
-pub with_set_is : (payload : List ℕ) → with_set_at payload ≡ (accused_at 2 payload >>= after_accused)
-unfolding with_set_at
-with_set_is payload = refl
 
 -- what a payload that is read as a claim with a set tells
 pub record IsWith (payload : List ℕ) (x : ClaimParts) (nodes : List Digest) : Type 0 where
@@ -55,13 +38,14 @@ pub record IsWith (payload : List ℕ) (x : ClaimParts) (nodes : List Digest) : 
 
 -- a claim with a set that is read of a payload is what the payload spells
 pub with_set_takes : (payload : List ℕ) (x : ClaimParts) → AreBytes payload → with_set_at payload ≡ Some x → (nodes : List Digest) × IsWith payload x nodes
+unfolding with_set_at
 with_set_takes payload x fits e =
-    let a = bind_some (accused_at 2 payload) after_accused x (sym (with_set_is payload) ∙ e) in
+    let a = bind_some (accused_at 2 payload) _ x e in
     let accused : Accused = a.0.0 in
     let axis = accused.0 in
-    let c = bind_some (set_cells_at axis accused.1 a.0.1) (after_cells accused) x a.2 in
+    let c = bind_some (set_cells_at axis accused.1 a.0.1) _ x a.2 in
     let cells : List Message = c.0.0 in
-    let n = bind_some (digest_list_at most_set_nodes c.0.1) (after_nodes accused cells) x c.2 in
+    let n = bind_some (digest_list_at most_set_nodes c.0.1) _ x c.2 in
     let nodes : List Digest = n.0.0 in
     let rest : List ℕ = n.0.1 in
     let g = cond_some (eqb (length rest) 0 && list_any (is_along axis) cells) (claim accused cells nodes) x n.2 in
@@ -90,6 +74,7 @@ with_set_takes payload x fits e =
 pub with_set_again : (accused : Accused) (cells : List Message) (nodes : List Digest) → IsClaim (claim accused cells nodes) → list_all (is_at accused.0 accused.1) cells ≡ true
     → list_any (is_along accused.0) cells ≡ true → length nodes ≤ most_set_nodes → length cells ≤ most_cells → length (set_payload (claim accused cells nodes) nodes) < 2 ^ 32
     → with_set_at (set_payload (claim accused cells nodes) nodes) ≡ Some (claim accused cells nodes)
+unfolding with_set_at
 with_set_again accused cells nodes is placed some few_nodes few small =
     let axis = accused.0 in
     let made : ClaimParts = claim accused cells nodes in
@@ -100,12 +85,7 @@ with_set_again accused cells nodes is placed some few_nodes few small =
     let sum_front : length (front ++ list) ≡ length front + length list = length-append front list in
     let joined : front ++ list ++ tail ≡ front ++ (list ++ tail) = append_assoc front list tail in
     let nodes_read : digest_list_at most_set_nodes tail ≡ Some (nodes, []) = subst (λ (l : List ℕ). digest_list_at most_set_nodes l ≡ Some (nodes, [])) (append-nil tail) (digest_list_again most_set_nodes nodes [] is.digests (omega (arith, few_nodes)) few_nodes) in
-    let ended : after_nodes accused cells (nodes, []) ≡ Some made = if_true_again (list_any (is_along axis) cells) (Some made) made some refl in
-    let after : after_cells accused (cells, tail) ≡ Some made = bind_again (digest_list_at most_set_nodes tail) (after_nodes accused cells) (nodes, []) made nodes_read ended in
     let listed : set_cells_at axis accused.1 (list ++ tail) ≡ Some (cells, tail) =
     list_again (set_cell_at axis accused.1) (cell_payload axis) (IsSetCell axis accused.1) (set_cell_field axis accused.1 is.index_bytes) w16 (2 ^ 16) wide16 most_cells cells tail
     (all_placed axis accused.1 cells is.messages placed) (omega arith) (omega (arith, few)) few in
-    let found : after_accused (accused, list ++ tail) ≡ Some made = bind_again (set_cells_at axis accused.1 (list ++ tail)) (after_cells accused) (cells, tail) made listed after in
-    let all : (accused_at 2 (front ++ (list ++ tail)) >>= after_accused) ≡ Some made =
-    bind_again (accused_at 2 (front ++ (list ++ tail))) after_accused (accused, list ++ tail) made (accused_again 2 accused (list ++ tail) is.index_bytes) found in
-    with_set_is (set_payload made nodes) ∙ subst (λ (l : List ℕ). (accused_at 2 l >>= after_accused) ≡ Some made) (sym joined) all
+    rw (joined, accused_again 2 accused (list ++ tail) is.index_bytes, listed, nodes_read, some) refl

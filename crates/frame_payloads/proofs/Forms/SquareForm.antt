@@ -1,5 +1,5 @@
 -- A square that is read of a payload is what the payload spells, and the payload that a square has is read.
-use Rattle.std.proofs.Common.{◌≡◌, ◌∙◌, ℕ, ◌*◌, ◌^◌, ◌≤◌, true, not, eqb, cond, List, ◌++◌, length, Option, None, Some, refl, sym, ap, subst, arith, eqb-true, eq-eqb}
+use Rattle.std.proofs.Common.{◌≡◌, ◌∙◌, ℕ, ◌*◌, ◌^◌, ◌≤◌, true, not, eqb, cond, List, ◌++◌, length, None, Some, refl, sym, ap, subst, arith, eqb-true, eq-eqb}
 use Rattle.std.specs.Int.{w16, to_be_bytes}
 use Rattle.std.proofs.lemmas.Bool.{not-false, not_from_true}
 use Rattle.std.proofs.lemmas.Option.{cond_some}
@@ -26,10 +26,6 @@ square k shares = record { k = k; shares = shares }
 abbrev square_in : ℕ → List ℕ → SquareShares
 square_in k bytes = square k (shares_of (k * k) bytes)
 
--- what `square_at` does after the width
-abbrev after_width : ℕ × List ℕ → Option SquareShares
-after_width k = cond (not (is_width k.0)) None (cond (eqb (length k.1) (512 * (k.0 * k.0))) (Some (square_in k.0 k.1)) None)
-
 -- ---- read
 
 -- a width and the bytes of its shares are a square, and spell it
@@ -48,7 +44,7 @@ is_square k bytes width fits len =
 pub square_takes : (payload : List ℕ) (s : SquareShares) → AreBytes payload → square_at payload ≡ Some s → (IsSquare s × AreShares s.shares) × (payload ≡ square_payload s)
 unfolding square_at
 square_takes payload s fits e =
-    let a = bind_some (big_endian_at w16 payload) after_width s e in
+    let a = bind_some (big_endian_at w16 payload) _ s e in
     let t = number_takes w16 (2 ^ 16) wide16 payload a.0.0 a.0.1 fits a.1 in
     let b = if_false (not (is_width a.0.0)) (cond (eqb (length a.0.1) (512 * (a.0.0 * a.0.0))) (Some (square_in a.0.0 a.0.1)) None) s a.2 in
     let g = cond_some (eqb (length a.0.1) (512 * (a.0.0 * a.0.0))) (square_in a.0.0 a.0.1) s b.1 in
@@ -68,7 +64,7 @@ square_again s is shares =
     let bytes : List ℕ = share_bytes s.shares in
     let few : s.k ≤ greatest_width = is_width-le s.k is.width in
     let same : square_in s.k bytes ≡ s = ap (λ (l : List Share). square s.k l) (split_into-spelled share_of text texts 512 (s.k * s.k) bytes s.shares shares is.count refl) in
-    bind_again (big_endian_at w16 (square_payload s)) after_width (s.k, bytes) s
+    bind_again (big_endian_at w16 (square_payload s)) _ (s.k, bytes) s
     (number_again w16 (2 ^ 16) wide16 s.k bytes (omega (arith, few)))
     (if_false_again (not (is_width s.k)) (cond (eqb (length bytes) (512 * (s.k * s.k))) (Some (square_in s.k bytes)) None) s (not_from_true (is_width s.k) is.width)
     (if_true_again (eqb (length bytes) (512 * (s.k * s.k))) (Some (square_in s.k bytes)) s

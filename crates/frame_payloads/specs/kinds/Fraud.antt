@@ -1,6 +1,5 @@
 -- The payload of a fraud claim (docs/FORMATS.md, "Payloads").
 use Rattle.std.specs.Prelude.{ℕ, List, [], ◌∷◌, length, nat_lt, not, Option, Some, None, if◌then◌else◌, ◌==◌, Bool, true, false, ◌++◌, ◌||◌, ◌&&◌}
-use Rattle.std.specs.Option.{option_map}
 use Rattle.std.specs.Int.{w16, to_be_bytes}
 use Rattle.std.specs.List.{list_all, list_any}
 use Rattle.namespace_id.specs.Sizes.{share_size, greatest_width, most_depth}
@@ -13,7 +12,7 @@ use Rattle.axis_roots.specs.Lines.{cell_on}
 use Rattle.axis_roots.specs.Sets.{is_one_axis, is_along}
 use Rattle.axis_roots.specs.Claims.{ClaimParts, is_on}
 use Rattle.frame_payloads.specs.declared.kinds.fraud_set.SetFields.{SetFields}
-use Rattle.frame_fields.specs.Fields.{◌>>=◌, big_endian_at, byte_at, string_at, axis_at, path_at, digest_list_at, digests_of, list_at, read_items}
+use Rattle.frame_fields.specs.Fields.{◌>>=◌, big_endian_at, byte_at, string_at, axis_at, path_at, digest_list_at, digests_of, list_at, many_at, read_items}
 use Rattle.frame_payloads.specs.codec.Texts.{axis_byte, path_bytes, list_bytes, digest_list}
 use Rattle.frame_fields.specs.Messages.{message_front}
 use Rattle.frame_payloads.specs.kinds.Message.{message_payload}
@@ -164,15 +163,11 @@ fraud_at bytes = either (plain_at bytes) (with_set_at bytes)
 
 -- ---- a claim with a set where it lies
 
--- whether the set shows one of the cells that are read, and the bytes after them
-abbrev pub passed : Axis → Option (List Message × List ℕ) → Option (Bool × List ℕ)
-passed axis read = option_map (λ r. (list_any (is_along axis) r.0, r.1)) read
-
 -- a claim with a set, of which the bytes of the cells and those of the nodes are known
 abbrev pub set_seen : SetFields → ClaimParts
 set_seen f = record {
   axis = f.axis;
   index = f.index;
-  cells = read_items (set_cells_at f.axis f.index f.cells.now);
-  set = Some (digests_of f.count f.nodes.now);
+  cells = read_items (many_at (set_cell_at f.axis f.index) f.cell_count f.cells.now);
+  set = Some (digests_of f.node_count f.nodes.now);
 }

@@ -1,9 +1,9 @@
 //! Fields of a payload, put one after another.
 
-ghost use Rattle.std.specs.Prelude.{◌≡◌, ◌<◌, length};
+ghost use Rattle.std.specs.Prelude.{◌≡◌, ◌<◌, ◌∷◌, length};
 ghost use Rattle.std.specs.Int.{w16, w32};
-ghost use Rattle.frame_payloads.specs.codec.Texts.{path_bytes, axis_byte, cell_bytes, text_bytes};
-ghost use Rattle.frame_payloads.specs.kinds.Commit.{hash_bytes};
+ghost use Rattle.std.specs.List.{flat_map};
+ghost use Rattle.frame_payloads.specs.codec.Texts.{axis_byte, cell_bytes, text_bytes};
 ghost use Rattle.frame_payloads.specs.Payloads.{Puts};
 
 use crate::codec::outs::{Full, Out};
@@ -44,22 +44,14 @@ impl Text for Cell {
     }
 }
 
-/// Puts digests behind their count in a byte.
-pub(crate) fn put_path<O: Out>(out: &mut O, digests: &[Digest]) -> Result<(), Full>
-    requires few { length digests.now < 256 }
-    ensures { Puts O.byte O.held O.taken O.limit out.old out.new (path_bytes digests.now) result }
+/// Puts values behind their count in a byte.
+pub(crate) fn put_short<T: Text, O: Out>(out: &mut O, values: &[T]) -> Result<(), Full>
+    requires few { length values.now < 256 }
+    ensures { Puts O.byte O.held O.taken O.limit out.old out.new
+        (length values.now ∷ flat_map T.text values.now) result }
 {
-    out.put(&[digests.len() as u8])?;
-    put_all(out, digests)
-}
-
-/// Puts hashes behind their count in a byte.
-pub(crate) fn put_hashes<O: Out>(out: &mut O, hashes: &[[u8; 32]]) -> Result<(), Full>
-    requires few { length hashes.now < 256 }
-    ensures { Puts O.byte O.held O.taken O.limit out.old out.new (hash_bytes hashes.now) result }
-{
-    out.put(&[hashes.len() as u8])?;
-    put_all(out, hashes)
+    out.put(&[values.len() as u8])?;
+    put_all(out, values)
 }
 
 /// The byte that an axis is.

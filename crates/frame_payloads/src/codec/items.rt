@@ -1,10 +1,10 @@
 //! Lists of values, of which each is read where the one before ended: passed over where they lie, and then made.
 
-ghost use Rattle.std.specs.Prelude.{◌≡◌, ℕ, List, Option, Some, IfOk, IsSome};
+ghost use Rattle.std.specs.Prelude.{◌≡◌, ℕ, List, Option, Some, None, IfOk, IsSome, MatchOption};
 ghost use Rattle.std.specs.Int.{w16, w32};
 ghost use Rattle.std.specs.Option.{option_map};
 ghost use Rattle.namespace_id.specs.Answers.{Gives};
-ghost use Rattle.frame_fields.specs.Fields.{many_at, list_at, read_items, read_rest};
+ghost use Rattle.frame_fields.specs.Fields.{many_at, list_at, read_items};
 
 use frame_fields::{count_at, count16_at};
 use std::alloc::{AllocError, Global};
@@ -26,7 +26,8 @@ pub(crate) trait Item: Drop {
 
 /// The bytes after so many values.
 fn after_many<T: Item>(count: u32, bytes: &[u8]) -> Option<&[u8]>
-    ensures { Gives (λ x. x.now) result (read_rest (many_at T.at count bytes.now)) }
+    ensures { MatchOption result (many_at T.at count bytes.now ≡ None) (λ rest.
+        (items : List T) × (many_at T.at count bytes.now ≡ Some (items, rest.now))) }
 {
     let mut rest = bytes;
     for _ in 0..count {
@@ -54,7 +55,8 @@ fn many_of<T: Item>(alloc: Global, count: u32, bytes: &[u8]) -> Result<Vec<T>, A
 /// The bytes after values behind their count in four bytes.
 #[tactic(auto, unfolding(frame_fields::specs::Fields::list_at))]
 pub(crate) fn after_list<T: Item>(bytes: &[u8], most: u32) -> Option<&[u8]>
-    ensures { Gives (λ x. x.now) result (read_rest (list_at w32 most T.at bytes.now)) }
+    ensures { MatchOption result (list_at w32 most T.at bytes.now ≡ None) (λ rest.
+        (items : List T) × (list_at w32 most T.at bytes.now ≡ Some (items, rest.now))) }
 {
     let (count, rest) = count_at(bytes, most)?;
     after_many::<T>(count, rest)
@@ -63,7 +65,8 @@ pub(crate) fn after_list<T: Item>(bytes: &[u8], most: u32) -> Option<&[u8]>
 /// The bytes after values behind their count in two bytes.
 #[tactic(auto, unfolding(frame_fields::specs::Fields::list_at))]
 pub(crate) fn after_list16<T: Item>(bytes: &[u8], most: u16) -> Option<&[u8]>
-    ensures { Gives (λ x. x.now) result (read_rest (list_at w16 most T.at bytes.now)) }
+    ensures { MatchOption result (list_at w16 most T.at bytes.now ≡ None) (λ rest.
+        (items : List T) × (list_at w16 most T.at bytes.now ≡ Some (items, rest.now))) }
 {
     let (count, rest) = count16_at(bytes, most)?;
     after_many::<T>(u32::from(count), rest)

@@ -5,7 +5,7 @@ ghost use Rattle.namespace_id.specs.Answers.{Gives, HasRoom};
 ghost use Rattle.share_split.specs.Blobs.{version_of, signer_bytes};
 ghost use Rattle.frame_fields.specs.Fields.{read_items};
 ghost use Rattle.frame_payloads.specs.Payloads.{GivesUnlessFull, IsSize, IsShort};
-ghost use Rattle.frame_payloads.specs.kinds.Block.{signed_at, signer_at, blob_at, asked_width, asks_for_zero, block_at, blob_bytes, width_number, block_payload};
+ghost use Rattle.frame_payloads.specs.kinds.Block.{signed_at, signer_at, blob_at, asked_width, asks_for_zero, block_at, blob_bytes, block_payload};
 ghost use Rattle.frame_payloads.specs.kinds.Units.{unit_at, counted_at};
 
 use crate::codec::appending::put_text;
@@ -56,10 +56,7 @@ fn signer_of(bytes: &[u8]) -> [u8; SIGNER_SIZE]
 fn signed_at(bytes: &[u8]) -> Option<(Option<[u8; SIGNER_SIZE]>, &[u8])>
     ensures { Gives (λ x. (x.0, x.1.now)) result (signed_at bytes.now) }
 {
-    if bytes.len() < SIGNER_SIZE {
-        return None;
-    }
-    let (signer, rest) = bytes.split_at(SIGNER_SIZE);
+    let (signer, rest) = bytes.split_at_checked(SIGNER_SIZE)?;
     Some((Some(signer_of(signer)), rest))
 }
 
@@ -127,6 +124,7 @@ impl Item for Blob {
 }
 
 /// The parts of the block whose payload the bytes are. It takes no memory.
+#[tactic(auto, unfolding(crate::specs::kinds::Block::block_at))]
 fn block_parts(payload: &[u8]) -> Option<BlockFields<'_>>
     ensures parts { MatchOption result (block_at payload.now ≡ None)
         (λ f. block_at payload.now ≡ Some (record {
@@ -207,13 +205,6 @@ fn signer_bytes(signer: &Option<[u8; SIGNER_SIZE]>) -> &[u8]
     }
 }
 
-/// The number that a width is written as, 0 for none.
-fn width_number(width: Option<u16>) -> u16
-    ensures { result ≡ width_number width }
-{
-    width.unwrap_or(0)
-}
-
 /// A blob is its namespace, its share version, its signer, if it has one, and its bytes.
 impl Text for Blob {
     ghost text = { blob_bytes };
@@ -230,7 +221,7 @@ impl Text for Block {
     ghost text = { block_payload };
 
     fn put<O: Out>(&self, out: &mut O) -> Result<(), Full> {
-        out.put(&width_number(self.width).to_be_bytes())?;
+        out.put(&self.width.unwrap_or(0).to_be_bytes())?;
         put_list(out, &self.units)?;
         put_list(out, &self.pay_units)?;
         put_list(out, &self.blobs)

@@ -1,29 +1,19 @@
 //! Room for a fraud claim, which holds one after another.
 
-ghost use Rattle.std.specs.Prelude.{◌≡◌, ◌≤◌, ◌<◌, ◌+◌, ◌*◌, ◌++◌, ◌∷◌, [], length, vec_len, vec_capacity, true, false, Some, None, IsSome};
+ghost use Rattle.std.specs.Prelude.{◌≡◌, ◌≤◌, ◌*◌, length, vec_capacity, true, false, Some, None, IsSome};
 ghost use Rattle.std.specs.Option.{is_some, option_map};
-ghost use Rattle.frame_fields.specs.Fields.{many_at, read_items, digests_of};
+ghost use Rattle.frame_fields.specs.Fields.{many_at, read_items};
 ghost use Rattle.frame_fields.specs.Messages.{message_front};
-ghost use Rattle.frame_payloads.specs.kinds.Fraud.{most_cells, most_set_nodes, set_cell_at, set_cells_at, claim_cells_at, set_seen, fraud_at};
+ghost use Rattle.frame_payloads.specs.kinds.Fraud.{most_cells, most_set_nodes, set_cell_at, claim_cells_at, set_seen, fraud_at};
 
 use crate::kinds::accused::MOST_CELLS;
 use crate::kinds::fraud::plain_parts;
-use crate::kinds::fraud_set::{MOST_NODES, SetFields, set_cell_at, set_fields};
+use crate::kinds::fraud_set::{MOST_NODES, SetFields, fill_cells, set_fields};
 use axis_roots::{FraudClaim, Message, SetNodes};
-use frame_fields::{count16_at, digest_at, message_front};
+use frame_fields::{add, count16_at, fill_digests, message_front};
 use namespace_id::{Axis, Digest, NoMemory};
 use std::alloc::Global;
 use std::marker::Model;
-
-/// Adds a value, for which there is capacity.
-fn add<T: Drop>(list: &mut Vec<T>, value: T)
-    requires room { vec_len list.old < vec_capacity list.old }
-    ensures items { list.new.items ≡ list.old.items ++ value ∷ [] }
-    ensures len { vec_len list.new ≡ vec_len list.old + 1 }
-    ensures capacity { vec_capacity list.old ≤ vec_capacity list.new }
-{
-    list.push(value).unwrap();
-}
 
 /// Fills a list with so many samples, one after another, in place of what it held.
 fn fill_samples(list: &mut Vec<Message>, count: u16, bytes: &[u8])
@@ -41,39 +31,6 @@ fn fill_samples(list: &mut Vec<Message>, count: u16, bytes: &[u8])
     }
 }
 
-/// Fills a list with so many cells on an accused axis, one after another, in place of what it held.
-fn fill_cells(list: &mut Vec<Message>, axis: Axis, index: u16, count: u16, bytes: &[u8])
-    requires cells { IsSome (many_at (set_cell_at axis index) count bytes.now) }
-    requires room { count ≤ vec_capacity list.old }
-    ensures items { list.new.items ≡ read_items (many_at (set_cell_at axis index) count bytes.now) }
-    ensures capacity { vec_capacity list.old ≤ vec_capacity list.new }
-{
-    list.clear();
-    let mut rest = bytes;
-    for _ in 0..count {
-        let (cell, after) = set_cell_at(axis, index, rest).unwrap();
-        add(list, cell);
-        rest = after;
-    }
-}
-
-/// Fills a list with so many digests, one after another, which are all of the bytes, in place of what it
-/// held.
-fn fill_nodes(list: &mut Vec<Digest>, count: u16, bytes: &[u8])
-    requires all { length bytes.now ≡ 90 * count }
-    requires room { count ≤ vec_capacity list.old }
-    ensures items { list.new.items ≡ digests_of count bytes.now }
-    ensures capacity { vec_capacity list.old ≤ vec_capacity list.new }
-{
-    list.clear();
-    let mut rest = bytes;
-    for _ in 0..count {
-        let (node, after) = digest_at(rest).unwrap();
-        add(list, node);
-        rest = after;
-    }
-}
-
 /// Fills a list with the samples of a claim without a set, behind their count, in place of what it held.
 #[tactic(auto, unfolding(frame_fields::specs::Fields::list_at))]
 fn fill_sample_list(list: &mut Vec<Message>, bytes: &[u8])
@@ -84,18 +41,6 @@ fn fill_sample_list(list: &mut Vec<Message>, bytes: &[u8])
 {
     let (count, rest) = count16_at(bytes, MOST_CELLS).unwrap();
     fill_samples(list, count, rest);
-}
-
-/// Fills a list with the cells of a claim with a set, behind their count, in place of what it held.
-#[tactic(auto, unfolding(frame_fields::specs::Fields::list_at))]
-fn fill_cell_list(list: &mut Vec<Message>, axis: Axis, index: u16, bytes: &[u8])
-    requires cells { IsSome (set_cells_at axis index bytes.now) }
-    requires room { most_cells ≤ vec_capacity list.old }
-    ensures items { list.new.items ≡ read_items (set_cells_at axis index bytes.now) }
-    ensures capacity { vec_capacity list.old ≤ vec_capacity list.new }
-{
-    let (count, rest) = count16_at(bytes, MOST_CELLS).unwrap();
-    fill_cells(list, axis, index, count, rest);
 }
 
 /// Room for the longest fraud claim that has a payload, which holds one claim after another. Contracts see the
@@ -159,13 +104,21 @@ impl ClaimRoom {
 
     /// Holds a claim with a set.
     fn hold_set(&mut self, fields: SetFields<'_>)
-        requires cells { IsSome (set_cells_at fields.axis fields.index fields.cells.now) }
-        requires nodes { length fields.nodes.now ≡ 90 * fields.count }
-        requires few { fields.count ≤ most_set_nodes }
+        requires cells { IsSome (many_at (set_cell_at fields.axis fields.index) fields.cell_count fields.cells.now) }
+        requires few_cells { fields.cell_count ≤ most_cells }
+        requires nodes { length fields.nodes.now ≡ 90 * fields.node_count }
+        requires few { fields.node_count ≤ most_set_nodes }
         ensures { self.new ≡ set_seen fields.entry }
     {
-        fill_cell_list(&mut self.cells, fields.axis, fields.index, fields.cells);
-        fill_nodes(&mut self.nodes, fields.count, fields.nodes);
+        fill_cells(
+            &mut self.cells,
+            fields.axis,
+            fields.index,
+            fields.cell_count,
+            fields.cells,
+        );
+        self.nodes.clear();
+        fill_digests(&mut self.nodes, fields.node_count as usize, fields.nodes);
         self.axis = fields.axis;
         self.index = fields.index;
         self.has_set = true;

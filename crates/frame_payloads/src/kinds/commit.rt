@@ -1,14 +1,13 @@
 //! The payload of a commitment proof: judged where it lies, then read; and written.
 
-ghost use Rattle.std.specs.Prelude.{◌≡◌, ◌==◌, if◌then◌else◌, length, None, Some, IfOk, IfSome, MatchOption, ◌+◌, ◌*◌, ◌++◌, IsSome, false, ◌↔◌, IsTrue};
+ghost use Rattle.std.specs.Prelude.{◌≡◌, length, None, Some, IfSome, MatchOption, ◌+◌, ◌*◌, ◌++◌, IsSome, false, ◌↔◌, IsTrue};
 ghost use Rattle.std.specs.List.{list_any};
-ghost use Rattle.std.specs.Option.{option_map_or};
 ghost use Rattle.namespace_id.specs.Answers.{Gives, HasRoom};
 ghost use Rattle.frame_fields.specs.Fields.{read_items, digests_of};
 ghost use Rattle.frame_payloads.specs.Payloads.{GivesUnlessFull, IsSize};
 ghost use Rattle.frame_payloads.specs.kinds.Commit.{is_long_row, is_long_commit, row_bytes, commit_payload, row_at, rows_at, commit_at};
 
-use crate::codec::appending::{put_hashes, put_path};
+use crate::codec::appending::put_short;
 use crate::codec::items::{Item, after_list16, list16};
 use crate::codec::outs::{Full, Out};
 use crate::codec::writing::{Text, append_text, put_list16, size_of};
@@ -83,33 +82,8 @@ fn row_at(bytes: &[u8]) -> Option<(RowFields<'_>, &[u8])>
     Some((row, rest))
 }
 
-/// What stands in front of the rows, and the bytes from their count on. What is read is a commitment
-/// proof where these are rows that end the payload.
-#[tactic(auto, unfolding(crate::specs::kinds::Commit::commit_at))]
-fn front(payload: &[u8]) -> Option<CommitFields<'_>>
-    ensures { MatchOption result (commit_at payload.now ≡ None)
-        (λ f. commit_at payload.now ≡ option_map_or (λ rows. if length rows.1 == 0 then Some (record {
-          k = f.k;
-          start = f.start;
-          count = f.count;
-          commitment = f.commitment;
-          rows = rows.0;
-        }) else None) (rows_at f.rows.now) None) }
-{
-    let (k, rest) = u16_at(payload)?;
-    let (start, rest) = u32_at(rest)?;
-    let (count, rest) = u32_at(rest)?;
-    let (commitment, rows) = hash_at(rest)?;
-    Some(CommitFields {
-        k,
-        start,
-        count,
-        commitment,
-        rows,
-    })
-}
-
 /// The parts of the commitment proof whose payload the bytes are. It takes no memory.
+#[tactic(auto, unfolding(crate::specs::kinds::Commit::commit_at))]
 fn commit_parts(payload: &[u8]) -> Option<CommitFields<'_>>
     ensures parts { MatchOption result (commit_at payload.now ≡ None)
         (λ f. commit_at payload.now ≡ Some (record {
@@ -121,12 +95,21 @@ fn commit_parts(payload: &[u8]) -> Option<CommitFields<'_>>
         })) }
     ensures rows { IfSome result (λ f. IsSome (rows_at f.rows.now)) }
 {
-    let fields = front(payload)?;
-    let rest = after_list16::<CommitRow>(fields.rows, MOST_ROWS)?;
+    let (k, rest) = u16_at(payload)?;
+    let (start, rest) = u32_at(rest)?;
+    let (count, rest) = u32_at(rest)?;
+    let (commitment, rows) = hash_at(rest)?;
+    let rest = after_list16::<CommitRow>(rows, MOST_ROWS)?;
     if !rest.is_empty() {
         return None;
     }
-    Some(fields)
+    Some(CommitFields {
+        k,
+        start,
+        count,
+        commitment,
+        rows,
+    })
 }
 
 /// Whether the bytes are the payload of a commitment proof. It takes no memory.
@@ -134,32 +117,6 @@ pub fn is_commit(payload: &[u8]) -> bool
     ensures { IsTrue result ↔ IsSome (commit_at payload.now) }
 {
     commit_parts(payload).is_some()
-}
-
-/// A row, with memory for its subtrees.
-fn row_of(alloc: Global, row: RowFields<'_>) -> Result<CommitRow, AllocError>
-    requires { length row.subtrees.now ≡ 90 * row.count }
-    ensures { IfOk result (λ made. made ≡ record {
-      root = row.entry.root;
-      up = row.entry.up;
-      subtrees = digests_of row.entry.count row.entry.subtrees.now;
-      nodes = row.entry.nodes;
-    }) }
-{
-    let RowFields {
-        root,
-        up,
-        count,
-        subtrees,
-        nodes,
-    } = row;
-    let subtrees = digests_of(alloc, count as usize, subtrees)?;
-    Ok(CommitRow {
-        root,
-        up,
-        subtrees,
-        nodes,
-    })
 }
 
 impl Item for CommitRow {
@@ -172,7 +129,21 @@ impl Item for CommitRow {
 
     fn read(alloc: Global, bytes: &[u8]) -> Result<(CommitRow, &[u8]), AllocError> {
         let (fields, rest) = row_at(bytes).unwrap();
-        Ok((row_of(alloc, fields)?, rest))
+        let RowFields {
+            root,
+            up,
+            count,
+            subtrees,
+            nodes,
+        } = fields;
+        let subtrees = digests_of(alloc, count as usize, subtrees)?;
+        let row = CommitRow {
+            root,
+            up,
+            subtrees,
+            nodes,
+        };
+        Ok((row, rest))
     }
 }
 
@@ -193,23 +164,12 @@ pub fn commit(alloc: Global, payload: &[u8]) -> Result<Option<CommitProof>, Allo
     }))
 }
 
-/// Whether a row has more subtrees than can be written.
-fn is_long_row(row: &CommitRow) -> bool
-    ensures { result ≡ is_long_row row.now }
-{
-    row.subtrees.len() > MOST_SUBTREES as usize
-}
-
-/// Whether one of several rows has.
+/// Whether one of several rows has more subtrees than can be written.
 fn has_long_row(rows: &[CommitRow]) -> bool
     ensures { result ≡ list_any is_long_row rows.now }
 {
-    for row in rows {
-        if is_long_row(row) {
-            return true;
-        }
-    }
-    false
+    rows.iter()
+        .any(|row| row.subtrees.len() > MOST_SUBTREES as usize)
 }
 
 /// Whether a commitment proof has more rows than can be written, or more subtrees in one of them.
@@ -225,9 +185,9 @@ impl Text for CommitRow {
 
     fn put<O: Out>(&self, out: &mut O) -> Result<(), Full> {
         out.put(&self.root.0)?;
-        put_hashes(out, self.up.hashes())?;
+        put_short(out, self.up.hashes())?;
         put_list16(out, &self.subtrees)?;
-        put_path(out, self.nodes.nodes())
+        put_short(out, self.nodes.nodes())
     }
 }
 

@@ -41,6 +41,7 @@ impl Item for Message {
 
 /// The axis that a claim without a set accuses, its index, and the bytes of its cells from their count
 /// on, of which all are there. It takes no memory.
+#[tactic(auto, unfolding(crate::specs::kinds::Fraud::plain_at))]
 pub(crate) fn plain_parts(payload: &[u8]) -> Option<(Axis, u16, &[u8])>
     ensures parts { MatchOption result (plain_at payload.now ≡ None)
         (λ x. plain_at payload.now ≡ Some (record {

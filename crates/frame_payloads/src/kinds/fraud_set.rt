@@ -1,19 +1,20 @@
 //! The payload of a fraud claim with a set: judged where it lies, then read; and written.
 
-ghost use Rattle.std.specs.Prelude.{◌≡◌, ◌≤◌, ◌*◌, length, vec_len, None, Some, true, IfOk, IfSome, ◌+◌, ◌++◌, vec_capacity, IsSome, false, ◌==◌};
+ghost use Rattle.std.specs.Prelude.{◌≡◌, ◌≤◌, ◌*◌, List, length, None, Some, IfSome, MatchOption, vec_capacity, IsSome};
 ghost use Rattle.std.specs.List.{flat_map, list_all, list_any};
 ghost use Rattle.namespace_id.specs.Answers.{Gives};
 ghost use Rattle.axis_roots.specs.Sets.{is_one_axis, is_along};
-ghost use Rattle.frame_fields.specs.Fields.{many_at, read_items, digests_of};
+ghost use Rattle.frame_fields.specs.Fields.{many_at, read_items};
 ghost use Rattle.frame_payloads.specs.Payloads.{GivesUnlessFull, Puts};
-ghost use Rattle.frame_payloads.specs.kinds.Fraud.{cell_payload, set_payload, is_cell_placed, fits_form, tag_at, cell_path_at, set_cell_at, set_cells_at, with_set_at, passed, set_seen, most_set_nodes};
+ghost use Rattle.frame_payloads.specs.kinds.Fraud.{cell_payload, set_payload, is_cell_placed, fits_form, tag_at, cell_path_at, set_cell_at, with_set_at, set_seen, most_cells, most_set_nodes};
+ghost use Rattle.axis_roots.specs.declared.message.messages.Message.{Message as Sample};
 
-use crate::codec::appending::put_path;
+use crate::codec::appending::put_short;
 use crate::codec::outs::{Full, Out};
 use crate::codec::writing::{count16, put_list16};
 use crate::kinds::accused::{MOST_CELLS, accused_at, put_accused};
 use axis_roots::{FraudClaim, Message, SetNodes, cell_on, index, is_along, position};
-use frame_fields::{count16_at, digest_list_at, digests_of, path_at, share_at, u8_at, u16_at};
+use frame_fields::{add, count16_at, digest_list_at, digests_of, path_at, share_at, u8_at, u16_at};
 use namespace_id::{Axis, GREATEST_WIDTH};
 use nmt_proofs::Path;
 use std::alloc::{AllocError, Global};
@@ -30,14 +31,14 @@ const CROSSING: u8 = 0;
 /// The tag of a cell that the set shows.
 const ALONG: u8 = 1;
 
-/// A claim with a set, judged. The cells are still bytes, from their count on, and so are the nodes,
-/// behind theirs.
+/// A claim with a set, judged. The cells and the nodes are still bytes, behind their counts.
 #[derive(Clone, Copy)]
 pub(crate) struct SetFields<'a> {
     pub axis: Axis,
     pub index: u16,
+    pub cell_count: u16,
     pub cells: &'a [u8],
-    pub count: u16,
+    pub node_count: u16,
     pub nodes: &'a [u8],
 }
 
@@ -103,8 +104,9 @@ pub(crate) fn set_cell_at(accused: Axis, index: u16, bytes: &[u8]) -> Option<(Me
 
 /// Whether the set shows one of so many cells, and the bytes after them.
 fn after_cells(axis: Axis, index: u16, count: u16, bytes: &[u8]) -> Option<(bool, &[u8])>
-    ensures { Gives (λ x. (x.0, x.1.now)) result
-        (passed axis (many_at (set_cell_at axis index) count bytes.now)) }
+    ensures { MatchOption result (many_at (set_cell_at axis index) count bytes.now ≡ None) (λ x.
+        (cells : List Sample) × (many_at (set_cell_at axis index) count bytes.now ≡ Some (cells, x.1.now))
+        × (x.0 ≡ list_any (is_along axis) cells)) }
 {
     let mut shown = false;
     let mut rest = bytes;
@@ -116,72 +118,47 @@ fn after_cells(axis: Axis, index: u16, count: u16, bytes: &[u8]) -> Option<(bool
     Some((shown, rest))
 }
 
-/// Whether the set shows one of a list of cells, and the bytes after them.
-#[tactic(auto, unfolding(frame_fields::specs::Fields::list_at))]
-fn after_cell_list(axis: Axis, index: u16, bytes: &[u8]) -> Option<(bool, &[u8])>
-    ensures { Gives (λ x. (x.0, x.1.now)) result (passed axis (set_cells_at axis index bytes.now)) }
-{
-    let (count, rest) = count16_at(bytes, MOST_CELLS)?;
-    after_cells(axis, index, count, rest)
-}
-
 /// The parts of the claim with a set whose payload the bytes are. It takes no memory.
+#[tactic(auto, unfolding(crate::specs::kinds::Fraud::with_set_at, frame_fields::specs::Fields::list_at))]
 pub(crate) fn set_fields(payload: &[u8]) -> Option<SetFields<'_>>
     ensures parts { Gives (λ f. set_seen f) result (with_set_at payload.now) }
-    ensures cells { IfSome result (λ f. IsSome (set_cells_at f.axis f.index f.cells.now)) }
-    ensures nodes { IfSome result (λ f. length f.nodes.now ≡ 90 * f.count) }
-    ensures few { IfSome result (λ f. f.count ≤ most_set_nodes) }
+    ensures cells { IfSome result (λ f.
+        IsSome (many_at (set_cell_at f.axis f.index) f.cell_count f.cells.now)) }
+    ensures few_cells { IfSome result (λ f. f.cell_count ≤ most_cells) }
+    ensures nodes { IfSome result (λ f. length f.nodes.now ≡ 90 * f.node_count) }
+    ensures few { IfSome result (λ f. f.node_count ≤ most_set_nodes) }
 {
-    let (axis, index, cells) = accused_at(FORM, payload)?;
-    let (shown, rest) = after_cell_list(axis, index, cells)?;
-    let (count, nodes, rest) = digest_list_at(rest, MOST_NODES)?;
+    let (axis, index, rest) = accused_at(FORM, payload)?;
+    let (cell_count, cells) = count16_at(rest, MOST_CELLS)?;
+    let (shown, rest) = after_cells(axis, index, cell_count, cells)?;
+    let (node_count, nodes, rest) = digest_list_at(rest, MOST_NODES)?;
     if !rest.is_empty() || !shown {
         return None;
     }
     Some(SetFields {
         axis,
         index,
+        cell_count,
         cells,
-        count,
+        node_count,
         nodes,
     })
 }
 
-/// So many cells, one after another.
-fn cells_of(
-    alloc: Global,
-    axis: Axis,
-    index: u16,
-    count: u16,
-    bytes: &[u8],
-) -> Result<Vec<Message>, AllocError>
-    requires { IsSome (many_at (set_cell_at axis index) count bytes.now) }
-    ensures { IfOk result (λ cells.
-        cells.items ≡ read_items (many_at (set_cell_at axis index) count bytes.now)) }
+/// Fills a list with so many cells on an accused axis, one after another, in place of what it held.
+pub(crate) fn fill_cells(list: &mut Vec<Message>, axis: Axis, index: u16, count: u16, bytes: &[u8])
+    requires cells { IsSome (many_at (set_cell_at axis index) count bytes.now) }
+    requires room { count ≤ vec_capacity list.old }
+    ensures items { list.new.items ≡ read_items (many_at (set_cell_at axis index) count bytes.now) }
+    ensures capacity { vec_capacity list.old ≤ vec_capacity list.new }
 {
-    let mut cells = Vec::with_capacity(alloc, count as usize)?;
+    list.clear();
     let mut rest = bytes;
     for _ in 0..count {
         let (cell, after) = set_cell_at(axis, index, rest).unwrap();
-        cells.push(cell)?;
+        add(list, cell);
         rest = after;
     }
-    Ok(cells)
-}
-
-/// A list of cells.
-#[tactic(auto, unfolding(frame_fields::specs::Fields::list_at))]
-fn cell_list(
-    alloc: Global,
-    axis: Axis,
-    index: u16,
-    bytes: &[u8],
-) -> Result<Vec<Message>, AllocError>
-    requires { IsSome (set_cells_at axis index bytes.now) }
-    ensures { IfOk result (λ cells. cells.items ≡ read_items (set_cells_at axis index bytes.now)) }
-{
-    let (count, rest) = count16_at(bytes, MOST_CELLS).unwrap();
-    cells_of(alloc, axis, index, count, rest)
 }
 
 /// The claim with a set whose payload the bytes are. No memory is taken before they are known to be
@@ -192,8 +169,15 @@ pub(crate) fn with_set(alloc: Global, payload: &[u8]) -> Result<Option<FraudClai
     let Some(fields) = set_fields(payload) else {
         return Ok(None);
     };
-    let cells = cell_list(alloc, fields.axis, fields.index, fields.cells)?;
-    let nodes = digests_of(alloc, fields.count as usize, fields.nodes)?;
+    let mut cells = Vec::with_capacity(alloc, fields.cell_count as usize)?;
+    fill_cells(
+        &mut cells,
+        fields.axis,
+        fields.index,
+        fields.cell_count,
+        fields.cells,
+    );
+    let nodes = digests_of(alloc, fields.node_count as usize, fields.nodes)?;
     Ok(Some(FraudClaim {
         axis: fields.axis,
         index: fields.index,
@@ -210,28 +194,18 @@ fn is_placed(claim: &FraudClaim, message: &Message) -> bool
         && (!is_along(claim.axis, message) || message.path.nodes().is_empty())
 }
 
-/// Whether all cells of a claim with a set are placed.
-fn are_placed(claim: &FraudClaim) -> bool
-    ensures { result ≡ list_all (is_cell_placed claim.now) claim.now.cells }
+/// Whether all of these cells of a claim with a set are placed.
+fn are_placed(claim: &FraudClaim, cells: &[Message]) -> bool
+    ensures { result ≡ list_all (is_cell_placed claim.now) cells.now }
 {
-    for cell in &claim.cells {
-        if !is_placed(claim, cell) {
-            return false;
-        }
-    }
-    true
+    cells.iter().all(|cell| is_placed(claim, cell))
 }
 
-/// Whether the set shows one of the cells of a claim.
-fn has_shown(claim: &FraudClaim) -> bool
-    ensures { result ≡ list_any (is_along claim.now.axis) claim.now.cells }
+/// Whether the set shows one of these cells.
+fn has_shown(axis: Axis, cells: &[Message]) -> bool
+    ensures { result ≡ list_any (is_along axis) cells.now }
 {
-    for cell in &claim.cells {
-        if is_along(claim.axis, cell) {
-            return true;
-        }
-    }
-    false
+    cells.iter().any(|cell| is_along(axis, cell))
 }
 
 /// Whether the cells of a claim can be written beside its set, if it has one.
@@ -240,7 +214,9 @@ pub(crate) fn fits_form(claim: &FraudClaim) -> bool
 {
     match &claim.set {
         Some(set) => {
-            are_placed(claim) && has_shown(claim) && set.nodes.len() <= MOST_NODES as usize
+            are_placed(claim, &claim.cells)
+                && has_shown(claim.axis, &claim.cells)
+                && set.nodes.len() <= MOST_NODES as usize
         }
         None => true,
     }
@@ -257,7 +233,7 @@ fn put_cell<O: Out>(out: &mut O, axis: Axis, message: &Message) -> Result<(), Fu
     }
     out.put(&[CROSSING])?;
     out.put(&message.share.0)?;
-    put_path(out, message.path.nodes())
+    put_short(out, message.path.nodes())
 }
 
 /// Puts cells, one after another.

@@ -6,11 +6,12 @@ ghost use Rattle.namespace_id.specs.Answers.{HasRoom};
 ghost use Rattle.frame_payloads.specs.kinds.Header.{roots_of, header_at, header_payload};
 ghost use Rattle.frame_payloads.specs.Payloads.{GivesUnlessFull, IsSize};
 
+use crate::bounds::header_law;
 use crate::codec::sizes::{DIGEST_SIZE, WIDTH_SIZE};
 use crate::codec::writing::append_all;
 use data_header::Header;
 use frame_fields::{digests_of, u16_at};
-use namespace_id::{append, digests_law, is_width};
+use namespace_id::{append, is_width};
 use std::alloc::{AllocError, Global};
 
 /// The bytes of 2k roots, for each k.
@@ -58,8 +59,7 @@ pub fn header(alloc: Global, payload: &[u8]) -> Result<Option<Header>, AllocErro
 pub fn header_size(header: &Header) -> u32
     ensures { IsSize false (header_payload header.now) (Some result) }
 {
-    digests_law(&header.rows);
-    digests_law(&header.cols);
+    header_law(header);
     WIDTH_SIZE + ROOTS_SIZE as u32 * u32::from(header.k)
 }
 

@@ -5,7 +5,7 @@ ghost use Rattle.namespace_id.specs.Answers.{HasRoom};
 ghost use Rattle.frame_payloads.specs.kinds.Message.{message_payload};
 ghost use Rattle.frame_payloads.specs.Payloads.{IsSize};
 
-use crate::codec::appending::{axis_byte, put_path};
+use crate::codec::appending::{axis_byte, put_short};
 use crate::codec::outs::{Full, Out};
 use crate::codec::sizes::{CELL_SIZE, DIGEST_SIZE, SHARE_SIZE};
 use crate::codec::writing::{Text, append_text};
@@ -35,7 +35,7 @@ impl Text for Message {
         self.cell.put(out)?;
         out.put(&[axis_byte(self.axis)])?;
         out.put(&self.share.0)?;
-        put_path(out, self.path.nodes())
+        put_short(out, self.path.nodes())
     }
 }
 

@@ -10,7 +10,7 @@ ghost use Rattle.namespace_id.specs.Sizes.{most_nodes};
 ghost use Rattle.frame_payloads.specs.Payloads.{GivesUnlessFull, IsSize, Puts};
 ghost use Rattle.frame_payloads.specs.kinds.Names.{most_shares_shown, is_long_found, is_long_entry, is_long_answer, entry_bytes, names_payload, share_list_at, range_at, absence_at, found_at, entry_at, entries_at, names_at, found_place, entry_place, answer_places, place_at, found_seen, HasShares, HasFewNodes, HasNodeBytes};
 
-use crate::codec::appending::put_path;
+use crate::codec::appending::put_short;
 use crate::codec::items::{Item, after_list16, list16};
 use crate::codec::outs::{Counter, Full, Out};
 use crate::codec::writing::{Text, put_list16};
@@ -157,6 +157,7 @@ fn entry_at(bytes: &[u8]) -> Option<(u16, FoundFields<'_>, &[u8])>
 
 /// The namespace of an answer, and the bytes of its entries from their count on, of which all are
 /// there. It takes no memory.
+#[tactic(auto, unfolding(crate::specs::kinds::Names::names_at))]
 fn names_parts(payload: &[u8]) -> Option<(Namespace, &[u8])>
     ensures parts { MatchOption result (names_at payload.now ≡ None)
         (λ x. names_at payload.now ≡ Some (x.0, read_items (entries_at x.1.now))) }
@@ -306,12 +307,7 @@ fn is_long_found(found: &Found) -> bool
 fn has_long_entry(entries: &[NsEntry]) -> bool
     ensures { result ≡ list_any is_long_entry entries.now }
 {
-    for entry in entries {
-        if is_long_found(&entry.found) {
-            return true;
-        }
-    }
-    false
+    entries.iter().any(|entry| is_long_found(&entry.found))
 }
 
 /// Whether an answer has more entries than can be written, or more shares in one of them.
@@ -337,7 +333,7 @@ fn write_range<O: Out>(
     out.put(&[RANGE])?;
     out.put(&start.to_be_bytes())?;
     put_list16(out, shares)?;
-    put_path(out, nodes)
+    put_short(out, nodes)
 }
 
 /// Puts an entry: a row, and the absence that is found in it.
@@ -356,7 +352,7 @@ fn write_absence<O: Out>(
     out.put(&[ABSENCE])?;
     out.put(&pos.to_be_bytes())?;
     out.put(&leaf.0)?;
-    put_path(out, nodes)
+    put_short(out, nodes)
 }
 
 impl Text for NsEntry {

@@ -42,10 +42,7 @@ fn reason_at(bytes: &[u8]) -> Option<(Reason, &[u8])>
 fn u64_at(bytes: &[u8]) -> Option<(u64, &[u8])>
     ensures { Gives (λ x. (x.0, x.1.now)) result (big_endian_at w64 bytes.now) }
 {
-    if bytes.len() < 8 {
-        return None;
-    }
-    let (front, rest) = bytes.split_at(8);
+    let (front, rest) = bytes.split_at_checked(8)?;
     let number = u64::from_be_bytes([
         front[0], front[1], front[2], front[3], front[4], front[5], front[6], front[7],
     ]);

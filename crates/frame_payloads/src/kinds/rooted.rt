@@ -5,7 +5,7 @@ ghost use Rattle.namespace_id.specs.Answers.{HasRoom};
 ghost use Rattle.frame_payloads.specs.kinds.Rooted.{rooted_payload, rooted_at};
 ghost use Rattle.frame_payloads.specs.Payloads.{IsSize};
 
-use crate::codec::appending::put_hashes;
+use crate::codec::appending::put_short;
 use crate::codec::sizes::{DIGEST_SIZE, HASH_SIZE, WIDTH_SIZE};
 use crate::kinds::message::{BARE_SIZE as MESSAGE_SIZE, put_message};
 use blob_commit::{RootedMessage, rooted_law};
@@ -62,5 +62,5 @@ pub fn put_rooted(out: &mut Vec<u8>, proof: &RootedMessage)
     append(out, &proof.k.to_be_bytes());
     put_message(out, &proof.message);
     append(out, &proof.root.0);
-    put_hashes(out, proof.up.hashes()).unwrap();
+    put_short(out, proof.up.hashes()).unwrap();
 }

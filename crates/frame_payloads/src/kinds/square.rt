@@ -7,10 +7,11 @@ ghost use Rattle.frame_fields.specs.Fields.{shares_of};
 ghost use Rattle.frame_payloads.specs.kinds.Square.{square_at, square_payload};
 ghost use Rattle.frame_payloads.specs.Payloads.{GivesUnlessFull, IsSize};
 
+use crate::bounds::square_law;
 use crate::codec::sizes::{SHARE_SIZE, WIDTH_SIZE};
 use crate::codec::writing::append_all;
 use frame_fields::{shares_of, u16_at};
-use namespace_id::{append, is_width, shares_law};
+use namespace_id::{append, is_width};
 use square_layout::Square;
 use std::alloc::{AllocError, Global};
 
@@ -52,7 +53,7 @@ pub fn square(alloc: Global, payload: &[u8]) -> Result<Option<Square>, AllocErro
 pub fn square_size(square: &Square) -> u32
     ensures { IsSize false (square_payload square.now) (Some result) }
 {
-    shares_law(&square.shares);
+    square_law(square);
     WIDTH_SIZE + SHARE_SIZE as u32 * (u32::from(square.k) * u32::from(square.k))
 }
 

@@ -1,9 +1,11 @@
 //! The payload of transactions: judged where it lies, then read; and written.
 
-ghost use Rattle.std.specs.Prelude.{◌≡◌, ◌++◌, ◌↔◌, false, length, IsSome, IsTrue};
+ghost use Rattle.std.specs.Prelude.{◌≡◌, ◌++◌, ◌↔◌, false, length, Some, None, IfSome, IsSome, IsTrue, MatchOption};
 ghost use Rattle.namespace_id.specs.Answers.{HasRoom};
+ghost use Rattle.frame_fields.specs.Fields.{read_items};
 ghost use Rattle.frame_payloads.specs.Payloads.{GivesUnlessFull, IsSize, IsShort};
 ghost use Rattle.frame_payloads.specs.kinds.Transactions.{transactions_at, transactions_payload};
+ghost use Rattle.frame_payloads.specs.kinds.Units.{unit_at, counted_at};
 
 use crate::codec::items::{after_list, list};
 use crate::codec::outs::{Counter, Full};
@@ -12,24 +14,35 @@ use crate::kinds::units::{MOST, UnitList};
 use share_split::Unit;
 use std::alloc::{AllocError, Global};
 
+/// The bytes of the transactions whose payload the bytes are, from their count on. It takes no memory.
+#[tactic(auto, unfolding(crate::specs::kinds::Transactions::transactions_at))]
+fn transactions_parts(payload: &[u8]) -> Option<&[u8]>
+    ensures parts { MatchOption result (transactions_at payload.now ≡ None)
+        (λ units. transactions_at payload.now ≡ Some (read_items (counted_at unit_at units.now))) }
+    ensures units { IfSome result (λ units. IsSome (counted_at unit_at units.now)) }
+{
+    let rest = after_list::<Unit>(payload, MOST)?;
+    if !rest.is_empty() {
+        return None;
+    }
+    Some(payload)
+}
+
 /// Whether the bytes are the payload of transactions. It takes no memory.
 pub fn is_transactions(payload: &[u8]) -> bool
     ensures { IsTrue result ↔ IsSome (transactions_at payload.now) }
 {
-    match after_list::<Unit>(payload, MOST) {
-        Some(rest) => rest.is_empty(),
-        None => false,
-    }
+    transactions_parts(payload).is_some()
 }
 
 /// The transactions whose payload the bytes are. No memory is taken before they are known to be some.
 pub fn transactions(alloc: Global, payload: &[u8]) -> Result<Option<UnitList>, AllocError>
     ensures { GivesUnlessFull result (transactions_at payload.now) }
 {
-    if !is_transactions(payload) {
+    let Some(units) = transactions_parts(payload) else {
         return Ok(None);
-    }
-    let list = list::<Unit>(alloc, payload, MOST)?;
+    };
+    let list = list::<Unit>(alloc, units, MOST)?;
     Ok(Some(UnitList { list }))
 }
 

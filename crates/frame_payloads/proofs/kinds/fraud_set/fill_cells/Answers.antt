@@ -1,7 +1,7 @@
 use Rattle.std.proofs.Common.{arith}
 use Rattle.frame_payloads.specs.kinds.Fraud.{set_cell_at}
 use Rattle.frame_payloads.proofs.Fields.Many.{gives_some, gives_value, kept_more, kept_end, next_some}
-use Rattle.frame_payloads.proofs.kinds.claim_room.fill_cells.Goals as goal
+use Rattle.frame_payloads.proofs.kinds.fraud_set.fill_cells.Goals as goal
 
 -- the next cell can be read
 pub unwrap-cell-requires : goal.unwrap-cell-requires

@@ -2,7 +2,7 @@ use Rattle.std.proofs.Common.{◌≡◌, ◌-◌, ◌≤◌, vec_len, vec_capaci
 use Rattle.frame_fields.specs.Fields.{many_at}
 use Rattle.frame_payloads.specs.kinds.Fraud.{set_cell_at}
 use Rattle.frame_payloads.proofs.Fields.Many.{after_some}
-use Rattle.frame_payloads.proofs.kinds.claim_room.fill_cells.Given as goal
+use Rattle.frame_payloads.proofs.kinds.fraud_set.fill_cells.Given as goal
 
 -- those so far and those that are left are all, and no capacity was lost
 abbrev pub invariant-loop : goal.invariant-loop
