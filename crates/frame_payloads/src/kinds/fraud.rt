@@ -167,6 +167,7 @@ pub fn fraud_size(claim: &FraudClaim) -> Option<u32>
 }
 
 /// The length of the payload of a fraud proof's claim.
+#[tactic(auto, using(crate::proofs::Forms::FraudSizes::within_told, crate::proofs::Forms::FraudSizes::fraud_few, crate::proofs::Forms::FraudSizes::fraud_sized))]
 pub fn proof_size(proof: &FraudProof) -> u32
     ensures { IsSize (is_unwritten proof.now.claim) (fraud_payload proof.now.claim)
         (Some result) }

@@ -56,6 +56,7 @@ pub fn header(alloc: Global, payload: &[u8]) -> Result<Option<Header>, AllocErro
 }
 
 /// The length of the payload of a header.
+#[tactic(auto, using(crate::proofs::Forms::PayloadSizes::header_sized))]
 pub fn header_size(header: &Header) -> u32
     ensures { IsSize false (header_payload header.now) (Some result) }
 {

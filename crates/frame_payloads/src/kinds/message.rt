@@ -19,6 +19,7 @@ pub(crate) const BARE_SIZE: usize = CELL_SIZE + 1 + SHARE_SIZE + 1;
 pub const MOST_MESSAGE: usize = BARE_SIZE + DIGEST_SIZE * MOST_DEPTH;
 
 /// The length of the payload of a sample.
+#[tactic(auto, using(crate::proofs::Forms::PayloadSizes::message_sized))]
 pub fn message_size(message: &Message) -> u32
     ensures { IsSize false (message_payload message.now) (Some result) }
 {

@@ -131,6 +131,7 @@ pub fn missing(alloc: Global, payload: &[u8]) -> Result<Option<Cells>, AllocErro
 }
 
 /// The length of the payload of missing cells, none where there are none or too many.
+#[tactic(auto, using(crate::proofs::Forms::PayloadSizes::missing_sized, crate::proofs::Forms::PayloadSizes::missing_beyond))]
 pub fn missing_size(cells: &Cells) -> Option<u32>
     ensures { IsSize (length cells.now.list == 0) (missing_payload cells.now) result }
 {

@@ -43,6 +43,7 @@ pub fn request(payload: &[u8]) -> Option<Namespace>
 }
 
 /// The length of the payload of a namespace request.
+#[tactic(auto, using(crate::proofs::Forms::PayloadSizes::request_sized))]
 pub fn request_size(name: &Namespace) -> u32
     ensures { IsSize false (request_payload name.now) (Some result) }
 {

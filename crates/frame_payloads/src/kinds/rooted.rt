@@ -45,6 +45,7 @@ pub fn rooted(payload: &[u8]) -> Option<RootedMessage>
 }
 
 /// The length of the payload of a root proof.
+#[tactic(auto, using(crate::proofs::Forms::CommitSizes::rooted_sized))]
 pub fn rooted_size(proof: &RootedMessage) -> u32
     ensures { IsSize false (rooted_payload proof.now) (Some result) }
 {

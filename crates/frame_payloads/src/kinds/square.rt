@@ -50,6 +50,7 @@ pub fn square(alloc: Global, payload: &[u8]) -> Result<Option<Square>, AllocErro
 }
 
 /// The length of the payload of a square.
+#[tactic(auto, using(crate::proofs::Forms::PayloadSizes::square_sized))]
 pub fn square_size(square: &Square) -> u32
     ensures { IsSize false (square_payload square.now) (Some result) }
 {
