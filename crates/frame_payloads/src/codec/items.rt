@@ -38,6 +38,7 @@ fn after_many<T: Item>(count: u32, bytes: &[u8]) -> Option<&[u8]>
 }
 
 /// So many values, one after another.
+#[tactic(auto, using(crate::proofs::Fields::Many::kept_end))]
 fn many_of<T: Item>(alloc: Global, count: u32, bytes: &[u8]) -> Result<Vec<T>, AllocError>
     requires { IsSome (many_at T.at count bytes.now) }
     ensures { IfOk result (λ items. items.items ≡ read_items (many_at T.at count bytes.now)) }

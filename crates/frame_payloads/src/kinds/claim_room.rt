@@ -16,6 +16,7 @@ use std::alloc::Global;
 use std::marker::Model;
 
 /// Fills a list with so many samples, one after another, in place of what it held.
+#[tactic(auto, using(crate::proofs::Fields::Many::kept_end))]
 fn fill_samples(list: &mut Vec<Message>, count: u16, bytes: &[u8])
     requires samples { IsSome (many_at message_front count bytes.now) }
     requires room { count ≤ vec_capacity list.old }

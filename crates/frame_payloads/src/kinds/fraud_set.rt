@@ -146,6 +146,7 @@ pub(crate) fn set_fields(payload: &[u8]) -> Option<SetFields<'_>>
 }
 
 /// Fills a list with so many cells on an accused axis, one after another, in place of what it held.
+#[tactic(auto, using(crate::proofs::Fields::Many::kept_end))]
 pub(crate) fn fill_cells(list: &mut Vec<Message>, axis: Axis, index: u16, count: u16, bytes: &[u8])
     requires cells { IsSome (many_at (set_cell_at axis index) count bytes.now) }
     requires room { count ≤ vec_capacity list.old }

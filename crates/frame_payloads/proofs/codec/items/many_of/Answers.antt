@@ -1,4 +1,4 @@
-use Rattle.frame_payloads.proofs.Fields.Many.{kept_more, kept_end, next_some}
+use Rattle.frame_payloads.proofs.Fields.Many.{kept_more, next_some}
 use Rattle.frame_payloads.proofs.codec.items.many_of.Goals as goal
 
 -- the next value can be read
@@ -10,7 +10,3 @@ pub loop-preserved : goal.loop-preserved
 loop-preserved g c =
     rw c.in_ok-push.ensures.items
     (kept_more g.T.Item.at c.args.count c.loop.counter c.loop.rest.now c.loop.items.items c.in_ok-item.item c.in_ok-item.after.now _ c.loop-test.true c.in_ok-item.ensures c.loop.invariant)
-
--- none are left
-pub returns : goal.returns
-returns g c = kept_end g.T.Item.at c.args.count c.loop.counter c.loop.rest.now c.loop.items.items _ c.loop-test.false c.loop.invariant

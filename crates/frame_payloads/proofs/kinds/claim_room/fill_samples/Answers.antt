@@ -1,6 +1,6 @@
 use Rattle.std.proofs.Common.{arith}
 use Rattle.frame_fields.specs.Messages.{message_front}
-use Rattle.frame_payloads.proofs.Fields.Many.{gives_some, gives_value, kept_more, kept_end, next_some}
+use Rattle.frame_payloads.proofs.Fields.Many.{gives_some, gives_value, kept_more, next_some}
 use Rattle.frame_payloads.proofs.kinds.claim_room.fill_samples.Goals as goal
 
 -- the next sample can be read
@@ -18,7 +18,3 @@ loop-preserved c = record {
   len = omega (arith, c.add.ensures.len, c.loop.invariant.len);
   capacity = omega (arith, c.add.ensures.capacity, c.loop.invariant.capacity);
 }
-
--- none are left
-pub returns-clause-items : goal.returns-clause-items
-returns-clause-items c = kept_end message_front c.args.count c.loop.counter c.loop.rest.now c.loop.list.items _ c.loop-test.false c.loop.invariant.all

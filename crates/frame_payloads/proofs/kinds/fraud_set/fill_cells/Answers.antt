@@ -1,6 +1,6 @@
 use Rattle.std.proofs.Common.{arith}
 use Rattle.frame_payloads.specs.kinds.Fraud.{set_cell_at}
-use Rattle.frame_payloads.proofs.Fields.Many.{gives_some, gives_value, kept_more, kept_end, next_some}
+use Rattle.frame_payloads.proofs.Fields.Many.{gives_some, gives_value, kept_more, next_some}
 use Rattle.frame_payloads.proofs.kinds.fraud_set.fill_cells.Goals as goal
 
 -- the next cell can be read
@@ -18,7 +18,3 @@ loop-preserved c = record {
   len = omega (arith, c.add.ensures.len, c.loop.invariant.len);
   capacity = omega (arith, c.add.ensures.capacity, c.loop.invariant.capacity);
 }
-
--- none are left
-pub returns-clause-items : goal.returns-clause-items
-returns-clause-items c = kept_end (set_cell_at c.args.axis c.args.index) c.args.count c.loop.counter c.loop.rest.now c.loop.list.items _ c.loop-test.false c.loop.invariant.all
