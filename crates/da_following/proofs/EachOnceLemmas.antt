@@ -1,19 +1,24 @@
 -- The namespaces that are wanted, each once, and what is fed of them.
-use Rattle.std.proofs.Common.{◌≡◌, ◌∙◌, ℕ, zero, suc, ◌<◌, Bool, true, false, ◌||◌, List, [], ◌∷◌, length, Some, None, Result, Ok, Err, refl, sym, ap, subst, arith, IsOk, IsTrue, is_err, ◌↔◌, true≢false, Ordering, Less, Equal, Greater}
-use Rattle.std.specs.Prelude.{slice_get, slice_index_or}
+use Rattle.std.proofs.Common.{◌≡◌, ◌∙◌, Bool, true, false, ◌||◌, List, [], ◌∷◌, Some, None, Result, Ok, Err, refl, sym, ap, subst, IsOk, IsTrue, is_err, ◌↔◌, true≢false, Ordering, Less, Equal, Greater}
+use Rattle.std.specs.Prelude.{slice_get}
 use Rattle.std.specs.declared.option.Option.{Option}
 use Rattle.std.specs.Ordering.{is_eq, match_ordering}
 use Rattle.std.specs.List.{fold, list_any, Contains}
 use Rattle.std.specs.BTreeSet.{insert_key}
 use Rattle.std.proofs.Math.Bool.{or-false, or_self_left, or_assoc, or_comm}
-use Rattle.std.proofs.lemmas.Bool.{or_right}
-use Rattle.std.proofs.lemmas.Map.Views.{Contains-from_any}
+use Rattle.std.specs.Cmp.{IsEquivalence}
+use Rattle.std.proofs.lemmas.Cmp.{on_equiv, eq_by_cmp_equiv, nat_list_cmp_total}
+use Rattle.std.proofs.lemmas.Map.Views.{Contains-from_any, list_any-from_Contains}
 use Rattle.namespace_id.specs.declared.namespaces.Namespace.{Namespace}
 use Rattle.namespace_id.specs.Names.{namespace_cmp}
 use Rattle.blob_feed.specs.Feeds.{Item, Height, heights_of, IsFedIn, IsFeedOf, Read}
 use Rattle.blob_feed.specs.Followers.{is_name}
-use Rattle.blob_feed.proofs.NameLemmas.{same_name, same_refl}
+use Rattle.blob_feed.proofs.NameLemmas.{same_name}
 use Rattle.da_following.specs.Follow.{each_once, RunFeed}
+
+-- which namespaces compare as one is an equivalence
+pub name_laws : IsEquivalence is_name
+name_laws = on_equiv (λ (n : Namespace). n.0) (eq_by_cmp_equiv nat_list_cmp_total)
 
 -- of three tests two change places
 or_swap : (a b d : Bool) → (a || (b || d)) ≡ (b || (a || d))
@@ -50,16 +55,6 @@ module _ (name : Namespace) where
       ∙ or_assoc (is_name name first) (list_any (is_name name) keys) (list_any (is_name name) wanted)
       ∙ or_swap (is_name name first) (list_any (is_name name) keys) (list_any (is_name name) wanted)
 
-  -- a namespace that is listed is found
-  found_there : (wanted : List Namespace) (k : ℕ) → k < length wanted → slice_index_or wanted k name ≡ name
-      → list_any (is_name name) wanted ≡ true
-  found_there [] k below is = absurd (omega (arith, below))
-  found_there (first ∷ wanted) zero below is =
-      let here : is_name name first ≡ true = subst (λ (n : Namespace). is_name name n ≡ true) (sym is) (same_refl name) in
-      ap (λ (b : Bool). b || list_any (is_name name) wanted) here
-  found_there (first ∷ wanted) (suc k) below is =
-      or_right (is_name name first) (list_any (is_name name) wanted) (found_there wanted k (omega (arith, below)) is)
-
   -- a namespace that is found among those that are wanted, each once, is found among those that are wanted
   pub wanted_listed : (wanted : List Namespace) → list_any (is_name name) (each_once wanted) ≡ true → list_any (is_name name) wanted ≡ true
   wanted_listed wanted found = sym (inserted_all [] wanted) ∙ found
@@ -70,7 +65,7 @@ module _ (name : Namespace) where
 
   -- and the other way
   pub wanted_found : (wanted : List Namespace) → Contains wanted name → list_any (is_name name) (each_once wanted) ≡ true
-  wanted_found wanted (k, below, is) = inserted_all [] wanted ∙ found_there wanted k below is
+  wanted_found wanted there = inserted_all [] wanted ∙ list_any-from_Contains name_laws name wanted there
 
 module _ (wants other : Namespace → Type 0) (there : (name : Namespace) → wants name → other name)
     (back : (name : Namespace) → other name → wants name) where

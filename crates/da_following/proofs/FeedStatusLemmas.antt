@@ -1,17 +1,19 @@
 -- The status of the lines of a feed.
-use Rattle.std.proofs.Common.{◌≡◌, ◌∙◌, ℕ, zero, suc, ◌+◌, ◌<◌, ◌≤◌, ◌≢◌, Bool, true, false, cond, ◌||◌, List, [], ◌∷◌, ◌++◌, length, refl, sym, ap, subst, arith, ⊎_elim, ◌↔◌}
+use Rattle.std.proofs.Common.{◌≡◌, ◌∙◌, ℕ, zero, suc, ◌+◌, ◌<◌, ◌≤◌, ◌≢◌, Bool, true, false, cond, List, [], ◌∷◌, ◌++◌, length, refl, sym, ap, subst, arith, ⊎_elim, ◌↔◌}
 use Rattle.std.specs.Prelude.{◌==◌, not, is_some}
 use Rattle.std.specs.declared.option.Option.{Option}
 use Rattle.std.specs.List.{filter, list_any, AllByRecursion, Contains}
-use Rattle.std.proofs.lemmas.Bool.{cases_eq, or_cases, or_right, eqb-true, eqb-false, not-false}
+use Rattle.std.proofs.lemmas.Bool.{cases_eq, eqb-true, eqb-false, not-false}
+use Rattle.std.proofs.lemmas.List.Elements.{All-contains, All-from_recursion, recursion_from_All}
+use Rattle.std.proofs.lemmas.Map.Views.{Contains-from_any, All-from_any}
 use Rattle.namespace_id.specs.declared.namespaces.Namespace.{Namespace}
 use Rattle.blob_feed.specs.Feeds.{Item, heights_of, FeedsAt, IsFeedOf, Read}
 use Rattle.blob_feed.specs.Followers.{is_name}
-use Rattle.blob_feed.proofs.NameLemmas.{same_name, same_refl}
+use Rattle.blob_feed.proofs.NameLemmas.{same_name}
 use Rattle.da_status.specs.declared.status.Status.{Status}
 use Rattle.da_status.specs.declared.status.Status.TheVariants.{Done, Waiting}
 use Rattle.da_following.specs.Follow.{each_once, RunFeed, FeedPlace, places_at, places_from, run_places, feed_lines, is_place_missing, missing_count, HasAll, feed_status, Follows}
-use Rattle.da_following.proofs.EachOnceLemmas.{wanted_there, wanted_found}
+use Rattle.da_following.proofs.EachOnceLemmas.{name_laws, wanted_there, wanted_found}
 use Rattle.da_following.proofs.FeedOnceLemmas.{follows_once}
 
 -- ---- places at which nothing is had
@@ -63,17 +65,10 @@ module _ (P : FeedPlace → Type 0) where
 -- a fact holds of each of some namespaces exactly where it holds of each that is found among them
 pub each_name : (Q : Namespace → Type 0) (names : List Namespace) → AllByRecursion Q names
     ↔ ((name : Namespace) → list_any (is_name name) names ≡ true → Q name)
-each_name Q [] = (λ h name found. absurd cc, λ h. tt)
-each_name Q (first ∷ names) =
-    let rest = each_name Q names in (
-      λ h name found.
-          ⊎_elim (λ (e : is_name name first ≡ true). subst Q (sym (same_name name first e)) h.0)
-          (λ (e : list_any (is_name name) names ≡ true). rest.0 h.1 name e) (or_cases (is_name name first) (list_any (is_name name) names) found),
-      λ h. (
-        h first (ap (λ (b : Bool). b || list_any (is_name first) names) (same_refl first)),
-        rest.1 (λ name found. h name (or_right (is_name name first) (list_any (is_name name) names) found)),
-      ),
-    )
+each_name Q names = (
+  λ h name found. All-contains Q names name (All-from_recursion Q names h) (Contains-from_any same_name name names found),
+  λ h. recursion_from_All Q names (All-from_any name_laws Q names h),
+)
 
 -- something is had at each place exactly where each wanted namespace has something at each height
 all_had : (feed : RunFeed) (wanted : List Namespace) (count : ℕ) → (missing_count feed (places_from (each_once wanted) 0 count) ≡ 0) ↔ HasAll feed wanted count

@@ -1,5 +1,5 @@
 -- What is kept of the height under way, with one answer more.
-use Rattle.std.proofs.Common.{◌≡◌, ◌∙◌, List, [], ◌∷◌, ◌++◌, Bool, true, false, cond, ◌&&◌, Option, Some, None, is_some, is_none, if◌then◌else◌, refl, sym, ap, ap₂, subst, inl, inr}
+use Rattle.std.proofs.Common.{◌≡◌, ◌∙◌, List, [], ◌∷◌, ◌++◌, Bool, true, false, cond, ◌&&◌, Option, Some, None, is_some, is_none, refl, sym, ap, ap₂, subst, inl, inr}
 use Rattle.std.specs.Prelude.{ℕ}
 use Rattle.std.specs.Option.{option_map, option_or}
 use Rattle.std.proofs.lemmas.Bool.{cases_Bool}
@@ -21,7 +21,7 @@ or_none None = refl
 or_none (Some x) = refl
 
 -- something stays, whatever else there is
-or_some : {X : Type 0} (o other : Option X) → is_some o ≡ true → o ≡ option_or o other
+pub or_some : {X : Type 0} (o other : Option X) → is_some o ≡ true → o ≡ option_or o other
 or_some None other e = absurd cc
 or_some (Some x) other e = refl
 
@@ -34,12 +34,6 @@ some_map f (Some x) = refl
 pub none_map : {A B : Type 0} (f : A → B) (o : Option A) → is_some o ≡ false → option_map f o ≡ None
 none_map f None e = refl
 none_map f (Some x) e = absurd cc
-
--- what is made of something in the place of another
-pub if_map : {A B : Type 0} (f : A → B) (b : Bool) (x : A) (o : Option A)
-    → option_map f (if b then Some x else o) ≡ (if b then Some (f x) else option_map f o)
-if_map f true x o = refl
-if_map f false x o = refl
 
 -- behind some answers one more says what none of them does
 pub said_more : (header : Roots) (name : Namespace) (answers : List NamedAnswer) (given : NamedAnswer)
@@ -80,33 +74,10 @@ module _ (header : Roots) (given : NamedAnswer) where
     abbrev pub AreWith : (Namespace → Option (List ℕ)) → Type 0
     AreWith new = (other : Namespace) → new other ≡ option_or (kept other) (first_said header other (given ∷ []))
 
-    -- nothing more, where the answer says something of its namespace alone
-    same_other : (other : Namespace) → is_name given.name other ≡ false → kept other ≡ option_or (kept other) (first_said header other (given ∷ []))
-    same_other other e = or_none (kept other) ∙ ap (option_or (kept other)) (sym (said_other other e))
-
-    -- something is kept of the namespace already
-    pub kept_already : is_some (kept given.name) ≡ true → AreWith kept
-    kept_already some = λ other. elim (cases_Bool (is_name given.name other)) [
-      | inl e ↦ or_some (kept other) (first_said header other (given ∷ []))
-          (subst (λ (n : Namespace). is_some (kept n) ≡ true) (same_name given.name other e) some)
-      | inr e ↦ same_other other e
-    ]
-
-    -- the answer says nothing
-    pub kept_so : first_said header given.name (given ∷ []) ≡ None → AreWith kept
-    kept_so none = λ other. elim (cases_Bool (is_name given.name other)) [
-      | inl e ↦ or_none (kept other) ∙ ap (option_or (kept other))
-          (sym (subst (λ (n : Namespace). first_said header n (given ∷ []) ≡ None) (same_name given.name other e) none))
-      | inr e ↦ same_other other e
-    ]
-
-    -- it is the first to say something
-    pub kept_new : (text : List ℕ) (new : Namespace → Option (List ℕ)) → kept given.name ≡ None
-        → first_said header given.name (given ∷ []) ≡ Some text
-        → ((other : Namespace) → new other ≡ (if is_name given.name other then Some text else kept other)) → AreWith new
-    kept_new text new none says is = λ other. elim (cases_Bool (is_name given.name other)) [
-      | inl e ↦ is other ∙ ap (λ (b : Bool). if b then Some text else kept other) e
-          ∙ subst (λ (n : Namespace). Some text ≡ option_or (kept n) (first_said header n (given ∷ []))) (same_name given.name other e)
-          (sym (ap₂ option_or none says))
-      | inr e ↦ is other ∙ ap (λ (b : Bool). if b then Some text else kept other) e ∙ same_other other e
+    -- so it is where it is so of the answer's namespace, and of others nothing changes
+    pub kept_with : (new : Namespace → Option (List ℕ)) → new given.name ≡ option_or (kept given.name) (first_said header given.name (given ∷ []))
+        → ((other : Namespace) → is_name given.name other ≡ false → new other ≡ kept other) → AreWith new
+    kept_with new own others = λ other. elim (cases_Bool (is_name given.name other)) [
+      | inl e ↦ subst (λ (n : Namespace). new n ≡ option_or (kept n) (first_said header n (given ∷ []))) (same_name given.name other e) own
+      | inr e ↦ others other e ∙ or_none (kept other) ∙ ap (option_or (kept other)) (sym (said_other other e))
     ]
