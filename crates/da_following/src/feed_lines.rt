@@ -28,10 +28,8 @@ pub struct Told {
 pub(crate) fn append(text: &mut Vec<u8>, part: &[u8]) -> Result<(), NoMemory>
     ensures { OnOk result (text.new.items ≡ text.old.items ++ part.now) }
 {
-    match text.extend_from_slice(part) {
-        Ok(()) => Ok(()),
-        Err(_) => Err(NoMemory),
-    }
+    text.extend_from_slice(part)?;
+    Ok(())
 }
 
 /// How the lines of a namespace at a height begin.

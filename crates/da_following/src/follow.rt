@@ -14,17 +14,17 @@ ghost use Rattle.da_status.specs.declared.status.Status.{Status as Ended};
 ghost use Rattle.da_status.specs.declared.status.Status.TheVariants.{Done, Waiting};
 ghost use Rattle.da_status.specs.Statuses.{status_kind, output};
 ghost use Rattle.da_status.specs.Outcome.{EndsAtOnce};
-ghost use Rattle.da_files.specs.Contents.{contents_of};
+ghost use Rattle.da_files.specs.Contents.{contents_of, file_of};
+ghost use Rattle.da_files.specs.Forms.{IsJudged};
 ghost use Rattle.da_files.specs.Requests.{failing_from, namespaces_in};
-ghost use Rattle.da_following.specs.Follow.{is_followed, each_once, item_of, items_in, bad_feed, RunFeed, places_from, IsToldOf, run_places, missing_count, HasAll, feed_status, Follows, FollowsAsked, follow_judged, FollowOf};
+ghost use Rattle.da_following.specs.Follow.{is_followed, each_once, item_of, items_in, bad_feed, RunFeed, IsToldOf, run_places, missing_count, HasAll, feed_status, Follows, FollowsAsked, follow_judged, FollowOf};
 ghost use Rattle.da_following.specs.Heights.{fed_by, IsOnWay, begun};
 ghost use Rattle.da_status.specs.Judging.{Judged};
 
 use crate::feed_lines::Told;
-use crate::forms::wanted_and_answers;
 use crate::heights::Way;
 use blob_feed::{Filter, feed_laws};
-use da_files::{next_name, put};
+use da_files::{file, next_name, put};
 use da_io::Sink;
 use da_status::{Asked, Status};
 use da_wire::{Frame, bad_value, next_value, value_laws};
@@ -96,10 +96,7 @@ fn wanted_set(alloc: Global, wanted: &[u8]) -> Result<BTreeSet<Namespace>, NoMem
 fn in_order(alloc: Global, names: &BTreeSet<Namespace>) -> Result<Vec<Namespace>, NoMemory>
     ensures { IfOk result (λ list. list.items ≡ names.now.keys) }
 {
-    match names.iter().copied().collect::<Vec<Namespace>>(alloc) {
-        Ok(list) => Ok(list),
-        Err(_) => Err(NoMemory),
-    }
+    Ok(names.iter().copied().collect::<Vec<Namespace>>(alloc)?)
 }
 
 /// The namespaces that are asked for, each once, ascending.
@@ -111,7 +108,7 @@ pub fn wanted_names(alloc: Global, wanted: &[u8]) -> Result<Vec<Namespace>, NoMe
 }
 
 /// Where bytes aren't a list of headers and answers that begins with a header.
-pub(crate) fn bad_feed(bytes: &[u8]) -> Option<u64>
+fn bad_feed(bytes: &[u8]) -> Option<u64>
     ensures { result ≡ bad_feed bytes.now }
 {
     if bytes.first() == Some(&b'N') {
@@ -214,23 +211,6 @@ pub fn follow_laws()
     feed_laws::<Listed>();
 }
 
-/// The lines of what comes of answers, of these namespaces.
-fn told_of(
-    alloc: Global,
-    wanted: &Listed,
-    names: &[Namespace],
-    answers: &[u8],
-) -> Result<Told, NoMemory>
-    requires { wanted.now ≡ names.now }
-    ensures { IfOk result (IsToldOf (fed_by names.now (heights_of (items_in answers.now)))
-        (places_from names.now 0 (length (heights_of (items_in answers.now))))) }
-{
-    let mut way = Way::new(alloc);
-    hand_over(alloc, wanted, names, answers, &mut way)?;
-    way.close(names)?;
-    Ok(way.told)
-}
-
 /// The lines of what comes of answers for the namespaces that are asked for, which are ones of blobs.
 fn told(alloc: Global, wanted: &[u8], answers: &[u8]) -> Result<Told, NoMemory>
     requires { failing_from is_followed 0 (namespaces_in wanted.now) ≡ None }
@@ -241,7 +221,11 @@ fn told(alloc: Global, wanted: &[u8], answers: &[u8]) -> Result<Told, NoMemory>
     feed_laws::<Listed>();
     let names = wanted_set(alloc, wanted)?;
     let ascending = in_order(alloc, &names)?;
-    told_of(alloc, &Listed { names }, &ascending, answers)
+    let list: &[Namespace] = &ascending;
+    let mut way = Way::new(alloc);
+    hand_over(alloc, &Listed { names }, list, answers, &mut way)?;
+    way.close(list)?;
+    Ok(way.told)
 }
 
 /// The status of lines of which so many say that there is nothing.
@@ -256,21 +240,8 @@ pub fn feed_status(missing: u64) -> Status
     }
 }
 
-/// Writes the lines of what comes of answers for the namespaces that are asked for, as one piece. These
-/// are ones of blobs.
-fn give<O: Sink>(alloc: Global, wanted: &[u8], answers: &[u8], out: &mut O) -> Status
-    requires { failing_from is_followed 0 (namespaces_in wanted.now) ≡ None }
-    ensures { EndsAtOnce (Follows (namespaces_in wanted.now) (items_in answers.now))
-        (O.taken out.old) (O.taken out.new) (O.faults out.old) (O.faults out.new)
-        (out.new ≡ out.old) result }
-{
-    match told(alloc, wanted, answers) {
-        Ok(told) => put(&told.text, feed_status(told.missing), out),
-        Err(_) => Status::NoMemory,
-    }
-}
-
-/// Answers what comes of answers for the namespaces that are asked for, if all are ones of blobs.
+/// Writes the lines of what comes of answers for the namespaces that are asked for, as one piece, if all are
+/// ones of blobs.
 fn answer<O: Sink>(alloc: Global, wanted: &[u8], answers: &[u8], out: &mut O) -> Status
     ensures { EndsAtOnce (FollowsAsked (namespaces_in wanted.now) (items_in answers.now))
         (O.taken out.old) (O.taken out.new) (O.faults out.old) (O.faults out.new)
@@ -278,7 +249,30 @@ fn answer<O: Sink>(alloc: Global, wanted: &[u8], answers: &[u8], out: &mut O) ->
 {
     match first_other(wanted) {
         Some(number) => Status::BadRequest(Asked::At(number)),
-        None => give(alloc, wanted, answers, out),
+        None => match told(alloc, wanted, answers) {
+            Ok(told) => put(&told.text, feed_status(told.missing), out),
+            Err(_) => Status::NoMemory,
+        },
+    }
+}
+
+/// WANTED and ANSWERS, which are judged in this order: a list of requests for namespaces, and one of headers
+/// and answers that begins with a header. It takes no memory.
+fn wanted_and_answers(files: &[Vec<u8>]) -> Result<(&[u8], &[u8]), Status>
+    ensures judged { IsJudged (follow_judged (contents_of files.now)) result }
+    ensures wanted { IfOk result (λ read.
+        read.0.now ≡ file_of (contents_of files.now) 0) }
+    ensures answers { IfOk result (λ read.
+        read.1.now ≡ file_of (contents_of files.now) 1) }
+{
+    let wanted = file(files, 0);
+    if let Some(at) = bad_value(wanted, b"P") {
+        return Err(Status::BadInput(0, at));
+    }
+    let answers = file(files, 1);
+    match bad_feed(answers) {
+        Some(at) => Err(Status::BadInput(1, at)),
+        None => Ok((wanted, answers)),
     }
 }
 

@@ -1,13 +1,12 @@
 //! What the command `follow` answers over the contents of its files: the blobs of namespaces from height to height,
 //! complete.
 //!
-//! `forms` has the shape of its files, `feed_lines` its lines, `heights` the way through the headers and answers,
+//! `feed_lines` has its lines, `heights` the way through the headers and answers,
 //! `listed` what is read of the squares of lists of transactions.
 #![tactic(auto)]
 
 mod feed_lines;
 pub mod follow;
-mod forms;
 mod heights;
 mod listed;
 
