@@ -53,15 +53,15 @@ blob_states named is =
 
 -- ---- one piece more
 
--- what is left behind a padding share
-record IsPadded (commitment : List ℕ) (more : List Piece) (after : List Share) : Type 0 where
-  later : List Piece
-  are : ArePieces after later
-  blobs : flat_map piece_blobs more ≡ flat_map piece_blobs later
-  lines : (start : ℕ) → found_lines commitment start more ≡ found_lines commitment (start + 1) later
+-- what is left behind so many padding shares
+pub record IsPadded (commitment : List ℕ) (n : ℕ) (more : List Piece) (after : List Share) : Type 0 where
+  pub later : List Piece
+  pub are : ArePieces after later
+  pub blobs : flat_map piece_blobs more ≡ flat_map piece_blobs later
+  pub lines : (start : ℕ) → found_lines commitment start more ≡ found_lines commitment (start + n) later
 
-padded : (commitment : List ℕ) (more : List Piece) (share : Share) (after : List Share) → AllByRecursion IsPiece more
-    → share ∷ after ≡ flat_map piece_shares more → size_in share ≡ 0 → IsPadded commitment more after
+pub padded : (commitment : List ℕ) (more : List Piece) (share : Share) (after : List Share) → AllByRecursion IsPiece more
+    → share ∷ after ≡ flat_map piece_shares more → size_in share ≡ 0 → IsPadded commitment 1 more after
 unfolding found_lines
 padded commitment [] share after are parts zero = absurd cc
 padded commitment (padding version name ∷ later) share after are parts zero = record {
@@ -77,17 +77,17 @@ padded commitment (blob named ∷ later) share after are parts zero =
     absurd (are.0.some (nil_from_length named.bytes none))
 
 -- the blob in front of what is left
-record IsBegun (commitment : List ℕ) (more : List Piece) (rest : List Share) (left : List NamedBytes) : Type 0 where
-  named : NamedBytes
-  is : IsBlob named
-  later : List Piece
-  are : AllByRecursion IsPiece later
-  parts : rest ≡ blob_shares_of named.namespace named.signer named.bytes ++ flat_map piece_shares later
-  blobs : left ≡ named ∷ flat_map piece_blobs later
-  lines : (start : ℕ) → found_lines commitment start more
+pub record IsBegun (commitment : List ℕ) (more : List Piece) (rest : List Share) (left : List NamedBytes) : Type 0 where
+  pub named : NamedBytes
+  pub is : IsBlob named
+  pub later : List Piece
+  pub are : AllByRecursion IsPiece later
+  pub parts : rest ≡ blob_shares_of named.namespace named.signer named.bytes ++ flat_map piece_shares later
+  pub blobs : left ≡ named ∷ flat_map piece_blobs later
+  pub lines : (start : ℕ) → found_lines commitment start more
       ≡ found_line commitment start (blob named) ++ found_lines commitment (start + length (blob_shares_of named.namespace named.signer named.bytes)) later
 
-begun : (commitment : List ℕ) (more : List Piece) (share : Share) (after rest : List Share) (left : List NamedBytes) → AllByRecursion IsPiece more
+pub begun : (commitment : List ℕ) (more : List Piece) (share : Share) (after rest : List Share) (left : List NamedBytes) → AllByRecursion IsPiece more
     → rest ≡ flat_map piece_shares more → rest ≡ share ∷ after → left ≡ flat_map piece_blobs more → (size_in share ≡ 0 → ⊥)
     → IsBegun commitment more rest left
 unfolding found_lines
@@ -129,8 +129,8 @@ walk_begins commitment first shares blobs are = record {
   size = refl;
 }
 
-module _ (commitment : List ℕ) (first : ℕ) (shares : List Share) (text : List ℕ) (start : ℕ) (rest : List Share) (left : List NamedBytes)
-    (w : IsWalked commitment first shares text start rest left) (share : Share) (after : List Share) (here : rest ≡ share ∷ after) where
+module _ {commitment : List ℕ} {first : ℕ} {shares : List Share} {text : List ℕ} {start : ℕ} {rest : List Share} {left : List NamedBytes}
+    (w : IsWalked commitment first shares text start rest left) {share : Share} {after : List Share} (here : rest ≡ share ∷ after) where
   -- past a padding share
   pub walk_passes : size_in share ≡ 0 → IsWalked commitment first shares text (start + 1) after left
   walk_passes zero =
@@ -152,7 +152,7 @@ module _ (commitment : List ℕ) (first : ℕ) (shares : List Share) (text : Lis
   pub walk_has : (size_in share ≡ 0 → ⊥) → left ≡ [] → ⊥
   walk_has some none = let next = next_blob some in let blobs : left ≡ next.named ∷ flat_map piece_blobs next.later = next.blobs in absurd cc
 
-  module _ (some : size_in share ≡ 0 → ⊥) (one : NamedBytes) (others : List NamedBytes) (found : left ≡ one ∷ others) where
+  module _ (some : size_in share ≡ 0 → ⊥) {one : NamedBytes} {others : List NamedBytes} (found : left ≡ one ∷ others) where
     -- it is the one that was found
     walk_one : (next_blob some).named ≡ one
     walk_one =
@@ -184,9 +184,9 @@ module _ (commitment : List ℕ) (first : ℕ) (shares : List Share) (text : Lis
         )
 
     -- past its shares
-    pub walk_goes : (count : ℕ) (later : List Share) (lines : List ℕ) → count ≡ share_count_of one → later ≡ drop count rest
+    pub walk_goes : {count : ℕ} {later : List Share} {lines : List ℕ} → count ≡ share_count_of one → later ≡ drop count rest
         → lines ≡ text ++ found_line commitment start (blob one) → IsWalked commitment first shares lines (start + count) later others
-    walk_goes count later lines counted behind written =
+    walk_goes {count} {later} {lines} counted behind written =
         let next = next_blob some in
         let own : List Share = blob_shares_of one.namespace one.signer one.bytes in
         let long : length own ≡ count = length-blob_shares_of one.namespace one.signer one.bytes ∙ sym counted in
@@ -219,15 +219,15 @@ module _ (commitment : List ℕ) (first : ℕ) (shares : List Share) (text : Lis
         }
 
 -- of no shares no lines are left
-none_left : (commitment : List ℕ) (start : ℕ) (more : List Piece) → [] ≡ flat_map piece_shares more → found_lines commitment start more ≡ []
+pub none_left : (commitment : List ℕ) (start : ℕ) (more : List Piece) → [] ≡ flat_map piece_shares more → found_lines commitment start more ≡ []
 unfolding found_lines
 none_left commitment start [] e = refl
 none_left commitment start (padding version name ∷ more) e = absurd cc
 none_left commitment start (blob named ∷ more) e = absurd cc
 
-pub walk_ends : (commitment : List ℕ) (first : ℕ) (shares : List Share) (text : List ℕ) (start : ℕ) (rest : List Share) (left : List NamedBytes)
+pub walk_ends : {commitment : List ℕ} {first : ℕ} {shares : List Share} {text : List ℕ} {start : ℕ} {rest : List Share} {left : List NamedBytes}
     → IsWalked commitment first shares text start rest left → rest ≡ [] → AreFound commitment first shares text
-walk_ends commitment first shares text start rest left w none =
+walk_ends {commitment} {first} {shares} {text} {start} {rest} {left} w none =
     let last = none_left commitment start w.more (sym none ∙ w.are_more.parts) in
     (w.all, w.are_all, sym (w.lines ∙ ap (λ (l : List ℕ). text ++ l) last ∙ append-nil text))
 

@@ -1,14 +1,14 @@
 -- What is answered of the blobs of a list of transactions in its square.
-use Rattle.std.proofs.Common.{true, false, cond, ◌≡◌, ◌∙◌, ◌↔◌, ℕ, ◌+◌, ◌-◌, ◌*◌, ◌%◌, ◌<◌, ◌≤◌, ◌==◌, nat_lt, nat_le, min, Bool, List, [], ◌∷◌, ◌++◌, length, take, drop, get_or, replicate, codes, None, Ok, Result, refl, sym, ap, ap₂, subst, arith, inl, inr, ⊎_elim, append_assoc, length-append}
+use Rattle.std.proofs.Common.{true, false, cond, ◌≡◌, ◌∙◌, ◌↔◌, ℕ, ◌+◌, ◌-◌, ◌*◌, ◌%◌, ◌≤◌, ◌==◌, nat_lt, nat_le, min, Bool, List, [], ◌∷◌, ◌++◌, length, take, drop, replicate, codes, None, Ok, Result, refl, sym, ap, ap₂, subst, arith, inl, inr, ⊎_elim, append_assoc, length-append}
 use Rattle.std.specs.List.{AllByRecursion, flat_map, Contains}
 use Rattle.std.specs.Str.{bytes_eq}
 use Rattle.std.proofs.Math.Seq.{drop-append_seam}
 use Rattle.std.proofs.lemmas.Bool.{or_from, ltb-false, lt-ltb, le-leb, eq-eqb}
 use Rattle.std.proofs.lemmas.Bool.Decides.{nat_tests}
-use Rattle.std.proofs.lemmas.Grind.{flat_map-append}
-use Rattle.std.proofs.lemmas.List.{get_or-append-add}
+use Rattle.std.proofs.lemmas.List.Elements.{Contains-append_right}
 use Rattle.std.proofs.lemmas.Slice.Eq.{bytes_eq-Decides}
 use Rattle.namespace_id.specs.declared.shares.Share.{Share}
+use Rattle.namespace_id.proofs.MemberLemmas.{contains_head, contains_none}
 use Rattle.namespace_id.specs.Names.{is_blob_namespace, transaction, pay_for_blob, primary_reserved_padding, tail_padding}
 use Rattle.namespace_id.specs.Shares.{AreShares}
 use Rattle.namespace_id.proofs.RefusalLemmas.{if_none}
@@ -27,6 +27,7 @@ use Rattle.square_layout.specs.Refusals.{max_shares, most_told}
 use Rattle.square_layout.specs.Plans.{PlanParts, front, lead, planned, plan_width, square_of_plan}
 use Rattle.square_layout.proofs.BlobOrderLemmas.{All-in_order}
 use Rattle.square_layout.proofs.PlanLemmas.{length-front, lead-in_order}
+use Rattle.square_layout.proofs.ReadBackLemmas.{plan_blobs}
 use Rattle.square_layout.proofs.ShareNameLemmas.{unit_shares_of-named}
 use Rattle.tx_list.specs.declared.refusals.ListError.TheVariants.{TooLarge}
 use Rattle.tx_list.specs.Payments.{ListParts, IsPayment, blobs_of as blobs_in}
@@ -56,7 +57,7 @@ use Rattle.da_serving.specs.Stated.{IsBuilt, ProvesBlob, ranges_from, ranges_of,
 use Rattle.da_serving.proofs.BuildLemmas.{both_fine}
 use Rattle.da_serving.proofs.BackLemmas.{AreCompactShares, AreOtherShares, each_append, each_drop, behind_front, behind_others, transactions_compact, payments_compact}
 use Rattle.da_serving.proofs.FindLemmas.{found_by, found_same}
-use Rattle.da_serving.proofs.LineLemmas.{AreLined, lines_same, plan_lined}
+use Rattle.da_serving.proofs.LineLemmas.{plan_lines}
 
 -- ---- lists that have squares
 
@@ -143,16 +144,13 @@ plan_compact plan named =
 
 -- in the order in which the blobs stand
 behind_is : (plan : PlanParts) → lead (plan.reserve - length (front plan)) (in_order plan.blobs)
-    ++ placed_behind true (padding_share primary_reserved_padding) plan.reserve (in_order plan.blobs)
-    ++ replicate (plan_width plan * plan_width plan - length (planned plan)) (padding_share tail_padding)
+    ++ (placed_behind true (padding_share primary_reserved_padding) plan.reserve (in_order plan.blobs)
+    ++ replicate (plan_width plan * plan_width plan - length (planned plan)) (padding_share tail_padding))
     ≡ behind_fronts plan
 behind_is plan =
-    let order : List NamedBytes = in_order plan.blobs in
-    let count : ℕ = plan.reserve - length (front plan) in
-    let blobs : List Share = placed_behind true (padding_share primary_reserved_padding) plan.reserve order in
-    let tail : List Share = replicate (plan_width plan * plan_width plan - length (planned plan)) (padding_share tail_padding) in
-    append_assoc (lead count order) blobs tail
-    ∙ ap (λ (l : List Share). l ++ (blobs ++ tail)) (sym (lead-in_order count plan.blobs))
+    ap (λ (l : List Share). l ++ (placed_behind true (padding_share primary_reserved_padding) plan.reserve (in_order plan.blobs)
+    ++ replicate (plan_width plan * plan_width plan - length (planned plan)) (padding_share tail_padding)))
+    (sym (lead-in_order (plan.reserve - length (front plan)) plan.blobs))
 
 -- ---- what is read, and found, of a list's square
 
@@ -179,34 +177,25 @@ built_laid kept of_shares of_blobs transactions is =
       shares = of_shares (list_of transactions) is.fits;
     }
 
--- the shares behind the compact ones, and how many these are, with the lines of a commitment
-pub record IsSeen (commitment : List ℕ) (list : ListParts) : Type 0 where
+-- the shares behind the compact ones, how many these are, and which blobs those are
+pub record IsSeen (list : ListParts) : Type 0 where
   pub behind : behind_compact (square_of_list list).shares ≡ behind_fronts (plan_of_list list)
   pub count : compact_front (square_of_list list) ≡ length (front (plan_of_list list))
   pub fits : AreShares (behind_fronts (plan_of_list list))
-  pub lined : AreLined commitment (length (front (plan_of_list list))) (behind_fronts (plan_of_list list)) (in_order (blobs_in list.payments)) (range_lines (ranges_of commitment list))
+  pub are : AreBlobs (behind_fronts (plan_of_list list)) (in_order (blobs_in list.payments))
 
-list_seen : (commitment : List ℕ) (list : ListParts) → IsLaid list → IsSeen commitment list
-list_seen commitment list is =
+list_seen : (list : ListParts) → IsLaid list → IsSeen list
+list_seen list is =
     let plan : PlanParts = plan_of_list list in
-    let order : List NamedBytes = in_order plan.blobs in
     let named = payments_named list.payments is.payments in
-    let room : length (front plan) ≤ plan.reserve = omega (arith, length-front plan, list_has_room list is.few) in
+    let rest : drop (length (front plan)) (square_of_plan plan).shares ≡ behind_fronts plan =
+    ap (drop (length (front plan))) (plan_whole plan) ∙ drop-append_seam (front plan) (behind_fronts plan) in
     record {
       behind = plan_behind plan named;
       count = plan_compact plan named;
-      fits = subst AreShares (ap (drop (length (front plan))) (plan_whole plan) ∙ drop-append_seam (front plan) (behind_fronts plan))
-          (each_drop _ (length (front plan)) (square_of_plan plan).shares is.shares);
-      lined = subst (λ (l : List Share). AreLined commitment (length (front plan)) l order (range_lines (ranges_of commitment list))) (behind_is plan)
-          (plan_lined commitment (length (front plan)) plan.reserve (plan_width plan * plan_width plan - length (planned plan)) order room
-          (All-in_order IsBlob plan.blobs is.blobs));
+      fits = subst AreShares rest (each_drop _ (length (front plan)) (square_of_plan plan).shares is.shares);
+      are = subst (λ (l : List Share). AreBlobs l (in_order plan.blobs)) rest (plan_blobs plan is.blobs);
     }
-
--- pieces of the blobs are what the shares are read as
-lined_blobs : (commitment : List ℕ) (start : ℕ) (shares : List Share) (blobs : List NamedBytes) (text : List ℕ) → AreLined commitment start shares blobs text
-    → AreBlobs shares blobs
-lined_blobs commitment start shares blobs text are =
-    record { pieces = are.pieces; are_pieces = are.are; parts = are.parts; shown = are.shown }
 
 ok_same : (one other : List NamedBytes) → ◌≡◌ {A = Result (List NamedBytes) JoinError} (Ok one) (Ok other) → one ≡ other
 ok_same one other e = cc
@@ -216,31 +205,28 @@ module _ (join : (shares : List Share) (blobs : List NamedBytes) → AreShares s
   -- exactly its blobs are read of its square
   pub list_read : blobs_joined (behind_compact (square_of_list list).shares) ≡ Ok (in_order (blobs_in list.payments))
   list_read =
-      let seen = list_seen [] list is in
-      ap blobs_joined seen.behind
-      ∙ (join (behind_fronts (plan_of_list list)) (in_order (blobs_in list.payments)) seen.fits).1
-      (lined_blobs [] (length (front (plan_of_list list))) (behind_fronts (plan_of_list list)) (in_order (blobs_in list.payments))
-      (range_lines (ranges_of [] list)) seen.lined)
+      let seen = list_seen list is in
+      ap blobs_joined seen.behind ∙ (join (behind_fronts (plan_of_list list)) (in_order (blobs_in list.payments)) seen.fits).1 seen.are
 
   -- lines that are found are those of its ranges
   found_is : (commitment text : List ℕ) → AreFound commitment (compact_front (square_of_list list)) (behind_compact (square_of_list list).shares) text
       → text ≡ range_lines (ranges_of commitment list)
   found_is commitment text found =
-      let seen = list_seen commitment list is in
-      let shares : List Share = behind_fronts (plan_of_list list) in
-      let count : ℕ = length (front (plan_of_list list)) in
-      let there = found_same commitment (compact_front (square_of_list list)) count (behind_compact (square_of_list list).shares) shares text seen.count
-      seen.behind found in
+      let seen = list_seen list is in
+      let plan : PlanParts = plan_of_list list in
+      let shares : List Share = behind_fronts plan in
+      let order : List NamedBytes = in_order (blobs_in list.payments) in
+      let there = found_same commitment (compact_front (square_of_list list)) (length (front plan)) (behind_compact (square_of_list list).shares) shares text
+      seen.count seen.behind found in
       let pieces : List Piece = there.0 in
       let read : AreBlobs shares (flat_map piece_blobs pieces) =
       record { pieces = pieces; are_pieces = there.1.are; parts = there.1.parts; shown = refl } in
-      let own = lined_blobs commitment count shares (in_order (blobs_in list.payments)) (range_lines (ranges_of commitment list)) seen.lined in
-      let same : flat_map piece_blobs pieces ≡ in_order (blobs_in list.payments) =
-      ok_same (flat_map piece_blobs pieces) (in_order (blobs_in list.payments))
-      (sym ((join shares (flat_map piece_blobs pieces) seen.fits).1 read) ∙ (join shares (in_order (blobs_in list.payments)) seen.fits).1 own) in
+      let same : order ≡ flat_map piece_blobs pieces =
+      ok_same order (flat_map piece_blobs pieces)
+      (sym ((join shares order seen.fits).1 seen.are) ∙ (join shares (flat_map piece_blobs pieces) seen.fits).1 read) in
       there.2
-      ∙ lines_same commitment count pieces seen.lined.pieces there.1.are seen.lined.are (sym there.1.parts ∙ seen.lined.parts) (same ∙ seen.lined.shown)
-      ∙ seen.lined.lines
+      ∙ plan_lines commitment (length (front plan)) plan.reserve (plan_width plan * plan_width plan - length (planned plan)) order pieces
+      (omega (arith, length-front plan, list_has_room list is.few)) (All-in_order IsBlob plan.blobs is.blobs) there.1.are (behind_is plan ∙ there.1.parts) same
 
   -- so they are what find writes
   pub finds_ranges : (commitment w : List ℕ) (status : Status) → Finds commitment (square_of_list list) w status
@@ -251,69 +237,44 @@ module _ (join : (shares : List Share) (blobs : List NamedBytes) → AreShares s
 
 -- ---- a blob's range among these
 
-pub record IsAmong (ranges : List (ℕ × ℕ)) (range : ℕ × ℕ) : Type 0 where
-  pub before : List (ℕ × ℕ)
-  pub behind : List (ℕ × ℕ)
-  pub parts : ranges ≡ before ++ range ∷ behind
-
 range_among : (commitment : List ℕ) (end : ℕ) (some others : List NamedBytes) (one : NamedBytes) → bytes_eq (commitment_of one) commitment ≡ true
-    → IsAmong (ranges_from commitment end (some ++ one ∷ others)) (start_after (end_of end some) one, share_count_of one)
+    → Contains (ranges_from commitment end (some ++ one ∷ others)) (start_after (end_of end some) one, share_count_of one)
 unfolding ranges_from end_of
 range_among commitment end [] others one has =
     let range : ℕ × ℕ = (start_after end one, share_count_of one) in
     let rest : List (ℕ × ℕ) = ranges_from commitment (start_after end one + share_count_of one) others in
-    record { before = []; behind = rest; parts = ap (λ (b : Bool). cond b (range ∷ []) [] ++ rest) has }
+    subst (λ (b : Bool). Contains (cond b (range ∷ []) [] ++ rest) range) (sym has) (contains_head range rest)
 range_among commitment end (first ∷ some) others one has =
     let next : ℕ = start_after end first + share_count_of first in
     let here : List (ℕ × ℕ) = cond (bytes_eq (commitment_of first) commitment) ((start_after end first, share_count_of first) ∷ []) [] in
-    let rest = range_among commitment next some others one has in
-    record {
-      before = here ++ rest.before;
-      behind = rest.behind;
-      parts = ap (λ (l : List (ℕ × ℕ)). here ++ l) rest.parts ∙ sym (append_assoc here rest.before (_ ∷ rest.behind));
-    }
+    Contains-append_right here (ranges_from commitment next (some ++ one ∷ others)) _ (range_among commitment next some others one has)
 
 -- the range of a blob from its place on is among those of its commitment
 pub place_among : (list : ListParts) (place : ℕ) (one : NamedBytes) → IsStart list place one
-    → IsAmong (ranges_of (commitment_of one) list) (place, share_count_of one)
+    → Contains (ranges_of (commitment_of one) list) (place, share_count_of one)
 place_among list place one at =
     let reserve : ℕ = list_reserve list in
     let own : List ℕ = commitment_of one in
     let same : bytes_eq own own ≡ true = (bytes_eq-Decides own own).1 refl in
-    subst (λ (n : ℕ). IsAmong (ranges_of own list) (n, share_count_of one)) (sym at.start)
-    (subst (λ (l : List NamedBytes). IsAmong (ranges_from own reserve l) (start_after (end_of reserve at.before) one, share_count_of one)) (sym at.order)
+    subst (λ (n : ℕ). Contains (ranges_of own list) (n, share_count_of one)) (sym at.start)
+    (subst (λ (l : List NamedBytes). Contains (ranges_from own reserve l) (start_after (end_of reserve at.before) one, share_count_of one)) (sym at.order)
     (range_among own reserve at.before at.behind one same))
 
-pub among_contained : (ranges : List (ℕ × ℕ)) (range : ℕ × ℕ) → IsAmong ranges range → Contains ranges range
-among_contained ranges range is =
-    let at : ℕ = length is.before in
-    let within : at < length ranges = omega (arith, ap (λ (l : List (ℕ × ℕ)). length l) is.parts, length-append is.before (range ∷ is.behind)) in
-    let zero_is : at ≡ at + 0 = omega arith in (
-      at,
-      within,
-      ap (λ (l : List (ℕ × ℕ)). get_or l at range) is.parts
-          ∙ ap (λ (n : ℕ). get_or (is.before ++ range ∷ is.behind) n range) zero_is
-          ∙ get_or-append-add is.before (range ∷ is.behind) 0 range,
-    )
-
 -- lines of some ranges aren't empty, and so they are done
-some_lines : (ranges : List (ℕ × ℕ)) (range : ℕ × ℕ) → IsAmong ranges range → 1 ≤ length (range_lines ranges)
-some_lines ranges range is =
-    let line : ℕ × ℕ → List ℕ = λ r. range_line r.0 r.1 in
+some_lines : (ranges : List (ℕ × ℕ)) (range : ℕ × ℕ) → Contains ranges range → 1 ≤ length (range_lines ranges)
+some_lines [] range is = absurd (contains_none range is)
+some_lines (first ∷ ranges) range is =
     let end : length (codes "\n") ≡ 1 = refl in
     omega (
       arith,
-      ap (λ (l : List (ℕ × ℕ)). length (range_lines l)) is.parts,
-      ap (λ (l : List ℕ). length l) (flat_map-append line is.before (range ∷ is.behind)),
-      length-append (flat_map line is.before) (flat_map line (range ∷ is.behind)),
-      length-append (line range) (flat_map line is.behind),
-      length-append (two_numbers range.0 range.1) (codes "\n"),
       end,
+      length-append (range_line first.0 first.1) (range_lines ranges),
+      length-append (two_numbers first.0 first.1) (codes "\n"),
     )
 
 not_none : (n : ℕ) → 1 ≤ n → (n == 0) ≡ false
 not_none n h = grind (arith, nat_tests)
 
-pub among_done : (ranges : List (ℕ × ℕ)) (range : ℕ × ℕ) (w : List ℕ) (status : Status) → IsAmong ranges range → WritesRanges ranges w status → status ≡ Done
+pub among_done : (ranges : List (ℕ × ℕ)) (range : ℕ × ℕ) (w : List ℕ) (status : Status) → Contains ranges range → WritesRanges ranges w status → status ≡ Done
 among_done ranges range w status is writes =
     writes.1 ∙ ap (λ (b : Bool). cond b Refused Done) (not_none (length (range_lines ranges)) (some_lines ranges range is))

@@ -6,7 +6,7 @@ use Rattle.da_files.proofs.FileLemmas.{some_there}
 use Rattle.da_serving.specs.Commit.{commitment_of}
 use Rattle.da_serving.specs.Stated.{built_square, stated_place, ranges_of}
 use Rattle.da_serving.proofs.BuildLemmas.{both_fine}
-use Rattle.da_serving.proofs.StatedLemmas.{built_few, proof_range, proves_blob, built_laid, list_read, finds_ranges, place_among, among_contained, among_done}
+use Rattle.da_serving.proofs.StatedLemmas.{built_few, proof_range, proves_blob, built_laid, list_read, finds_ranges, place_among, among_done}
 use Rattle.da_serving.proofs.stated.stated_laws.Goals as goal
 
 pub returns-clause-range : goal.returns-clause-range
@@ -38,9 +38,7 @@ returns-clause-finds c = λ transactions commitment w status is finds.
 pub returns-clause-found : goal.returns-clause-found
 returns-clause-found c = λ transactions before after blob there.
     let list = list_of transactions in
-    let place : ℕ = stated_place transactions (length before) in
-    among_contained (ranges_of (commitment_of blob) list) (place, share_count_of blob)
-    (place_among list place blob (c.place_laws.ensures.start list before after blob there))
+    place_among list (stated_place transactions (length before)) blob (c.place_laws.ensures.start list before after blob there)
 
 pub returns-clause-done : goal.returns-clause-done
 returns-clause-done c = λ transactions before after blob w status is there finds.
