@@ -19,7 +19,7 @@ use Rattle.da_status.specs.declared.status.Asked.TheVariants.{NoHeader, At}
 use Rattle.da_status.specs.Statuses.{status_kind}
 use Rattle.da_serving.specs.Choices.{FramesOf, HasFrame}
 use Rattle.da_status.specs.Judging.{Judged}
-use Rattle.da_status.specs.Outcome.{Relation, Refuses, Outputs, OutputsPart, OutputsFront, Ends, EndsAtOnce}
+use Rattle.da_status.specs.Outcome.{Relation, Refuses, OutputsFront, Ends, EndsAtOnce}
 use Rattle.da_files.specs.Contents.{square_file}
 use Rattle.da_files.specs.Forms.{Over}
 use Rattle.da_files.specs.Frames.{error_of, square_in, Writes}
@@ -51,105 +51,112 @@ proper_on front taken text rest p =
 
 -- ---- frames one after another
 
--- there is a first request
-abbrev pub HasRequest : {A : Type 0} → List A → Type 0
-HasRequest {A} requests = (request : A) × (later : List A) × (requests ≡ request ∷ later)
+-- how far a walk over requests has come: those in front were answered, each of the rest allows a frame, and no write failed
+pub record IsServed {A : Type 0} (Allows : A → Frame → Type 0) (old now : Option (List ℕ)) (before counted : ℕ) (all rest : List A) : Type 0 where
+  pub front : List A
+  pub w : List ℕ
+  pub frames : FramesOf Allows front w
+  pub taken : Appends old now w
+  pub parts : all ≡ front ++ rest
+  pub to_come : AllByRecursion (HasFrame Allows) rest
+  pub told : IsSome old ↔ IsSome now
+  pub faults : counted ≡ before
 
-module _ {A : Type 0} (Allows : A → Frame → Type 0) where
-  -- of all requests those in front were answered, and the rest is left
-  abbrev pub Served : Option (List ℕ) → Option (List ℕ) → List A → List A → Type 0
-  Served old now all rest = (front : List A) × (w : List ℕ) × FramesOf Allows front w × Appends old now w × (all ≡ front ++ rest)
+-- none was answered
+pub served_none : {A : Type 0} (Allows : A → Frame → Type 0) (old : Option (List ℕ)) (before : ℕ) (all : List A) → AllByRecursion (HasFrame Allows) all
+    → IsServed Allows old old before before all all
+unfolding FramesOf
+served_none Allows old before all to_come =
+    record { front = []; w = []; frames = refl; taken = Appends-nil old; parts = refl; to_come = to_come; told = (λ x. x, λ x. x); faults = refl }
 
-  -- none was answered
-  pub served_none : (old : Option (List ℕ)) (all : List A) → Served old old all all
-  unfolding FramesOf
-  served_none old all = ([], [], refl, Appends-nil old, refl)
-
-  -- one more
-  pub served_on : (old mid new : Option (List ℕ)) (all rest later : List A) (request : A) (frame : Frame) → Served old mid all rest → rest ≡ request ∷ later
-      → Allows request frame → Outputs (Writes frame) mid new Done → Served old new all later
-  served_on old mid new all rest later request frame s next allowed wrote = (
-    s.0 ++ request ∷ [],
-    s.1 ++ wrote.0,
-    frames_more Allows s.0 request frame wrote.0 s.1 s.2 allowed wrote.1.0,
-    Appends-trans old mid new s.1 wrote.0 s.3 wrote.2,
-    s.4 ∙ ap (λ (l : List A). s.0 ++ l) next ∙ sym (append_assoc s.0 (request ∷ []) later),
-  )
-
-  -- with a frame for the next request, and one for each later request, there is a whole output
-  whole : (front later all : List A) (request : A) (frame : Frame) (w text : List ℕ) → FramesOf Allows front w → all ≡ front ++ request ∷ later → Allows request frame
-      → spelling frame ≡ Some text → AllByRecursion (HasFrame Allows) later → (rest : List ℕ) × FramesOf Allows all (w ++ (text ++ rest))
-  whole front later all request frame w text frames parts allowed spelled to_come =
-      let full = frames_front Allows (front ++ request ∷ []) later (w ++ text) (frames_more Allows front request frame text w frames allowed spelled) to_come in
-      let same : (front ++ request ∷ []) ++ later ≡ all = append_assoc front (request ∷ []) later ∙ sym parts in (
-        full.0,
-        subst (λ (l : List ℕ). FramesOf Allows all l) (append_assoc w text full.0)
-            (subst (λ (l : List A). FramesOf Allows l ((w ++ text) ++ full.0)) same full.1),
-      )
-
-  module _ (old mid new : Option (List ℕ)) (all rest later : List A) (request : A) (frame : Frame) (before now : ℕ) (Same : Type 0) (s : Served old mid all rest)
-      (next : rest ≡ request ∷ later) (allowed : Allows request frame) (to_come : AllByRecursion (HasFrame Allows) later) (told : IsSome old ↔ IsSome new) where
-    -- all requests with the next one among them
-    parts : all ≡ s.0 ++ request ∷ later
-    parts = s.4 ∙ ap (λ (l : List A). s.0 ++ l) next
-
-    -- a write of the next frame failed
-    stopped_write : OutputsPart (Writes frame) mid new → now ≡ count_on before 1 → Ends (GivesFrames Allows all) old new before now Same WriteFault
-    stopped_write h counted =
-        let full = whole s.0 later all request frame s.1 h.0 s.2 parts allowed h.2.0 to_come in
-        ends_in_fault (GivesFrames Allows all) (s.1 ++ (h.0 ++ full.0)) Done old new before now Same (full.1, refl)
-        (part_of_back old mid new s.1 (h.0 ++ full.0) s.3 (part_of_front mid new h.0 full.0 h.3)) counted told
-
-    -- memory ran out at the next frame
-    stopped_memory : (text : List ℕ) → spelling frame ≡ Some text → OutputsFront (Writes frame) mid new → now ≡ before
-        → Ends (GivesFrames Allows all) old new before now Same NoMemory
-    stopped_memory text spelled h counted =
-        let full = whole s.0 later all request frame s.1 text s.2 parts allowed spelled to_come in
-        let proper = proper_on s.1 h.0 text full.0 (proper_part frame text h.0 spelled h.2) in
-        record {
-          leaves = (s.1 ++ h.0, Appends-trans old mid new s.1 h.0 s.3 h.1, inr (s.1 ++ (text ++ full.0), Done, (full.1, refl), proper));
-          faults = counted;
-          told = told;
-          untouched = tt;
-          own = tt;
-        }
-
-    -- the next frame was not written whole
-    pub served_stopped : (counted : ℕ) → counted ≡ before → IsSome (spelling frame) → (SameText : Type 0) (status : Status) → (status ≡ Done → ⊥)
-        → Ends (Writes frame) mid new counted now SameText status → Ends (GivesFrames Allows all) old new before now Same status
-    served_stopped counted same spelled SameText Done failed ends = absurd (failed refl)
-    served_stopped counted same spelled SameText Usage failed ends = absurd ends.own
-    served_stopped counted same spelled SameText (PickFault i) failed ends = absurd ends.own
-    served_stopped counted same spelled SameText (ReadFault i) failed ends = absurd ends.own
-    served_stopped counted same spelled SameText (TooLong i) failed ends = absurd ends.own
-    served_stopped counted same spelled SameText (BadInput i at) failed ends = absurd (failed ends.leaves.1.1)
-    served_stopped counted same spelled SameText (BadBlock why) failed ends = absurd (failed ends.leaves.1.1)
-    served_stopped counted same spelled SameText (BadList why) failed ends = absurd (failed ends.leaves.1.1)
-    served_stopped counted same spelled SameText (BadRequest why) failed ends = absurd (failed ends.leaves.1.1)
-    served_stopped counted same spelled SameText (Fraud axis i) failed ends = absurd (failed ends.leaves.1.1)
-    served_stopped counted same spelled SameText (Missing cells lies) failed ends = absurd (failed ends.leaves.1.1)
-    served_stopped counted same spelled SameText Clash failed ends = absurd (failed ends.leaves.1.1)
-    served_stopped counted same spelled SameText Refused failed ends = absurd (failed ends.leaves.1.1)
-    served_stopped counted same spelled SameText (Waiting cells) failed ends = absurd (failed ends.leaves.1.1)
-    served_stopped counted same spelled SameText WriteFault failed ends = stopped_write ends.leaves (ends.faults ∙ ap (λ (n : ℕ). count_on n 1) same)
-    served_stopped counted same spelled SameText NoMemory failed ends =
-        let text = some_there (spelling frame) spelled in stopped_memory text.0 text.1 ends.leaves (ends.faults ∙ same)
-
-  -- memory ran out before the next frame was made
-  pub served_memory : (old new : Option (List ℕ)) (all rest : List A) (before now : ℕ) (Same : Type 0) → Served old new all rest → HasRequest rest
-      → AllByRecursion (HasFrame Allows) rest → now ≡ before → (IsSome old ↔ IsSome new) → Ends (GivesFrames Allows all) old new before now Same NoMemory
-  served_memory old new all rest before now Same s some to_come counted told =
-      let frames = subst (AllByRecursion (HasFrame Allows)) some.2 to_come in
-      let first = frames.0 in
-      let text = some_there (spelling first.0) first.2 in
-      stopped_memory old new new all rest some.1 some.0 first.0 before now Same s some.2 first.1 frames.1 told text.0 text.1 ([], Appends-nil new, inl refl) counted
-
+module _ {A : Type 0} {Allows : A → Frame → Type 0} {old mid : Option (List ℕ)} {before counted : ℕ} {all rest : List A}
+    (s : IsServed Allows old mid before counted all rest) where
   -- all were answered
-  pub served_all : (old new : Option (List ℕ)) (all rest : List A) (before now : ℕ) (Same : Type 0) → Served old new all rest → rest ≡ []
-      → now ≡ before → (IsSome old ↔ IsSome new) → Ends (GivesFrames Allows all) old new before now Same Done
-  served_all old new all rest before now Same s none counted told =
-      let same : s.0 ≡ all = sym (append-nil s.0) ∙ ap (λ (l : List A). s.0 ++ l) (sym none) ∙ sym s.4 in
-      ends_output (GivesFrames Allows all) s.1 Done old new before now Same refl (subst (λ (l : List A). FramesOf Allows l s.1) same s.2, refl) s.3 counted told
+  pub served_all : rest ≡ [] → (Same : Type 0) → Ends (GivesFrames Allows all) old mid before counted Same Done
+  served_all none Same =
+      let same : s.front ≡ all = sym (append-nil s.front) ∙ ap (λ (l : List A). s.front ++ l) (sym none) ∙ sym s.parts in
+      ends_output (GivesFrames Allows all) s.w Done old mid before counted Same refl (subst (λ (l : List A). FramesOf Allows l s.w) same s.frames, refl) s.taken
+      s.faults s.told
+
+  module _ {request : A} {later : List A} (next : rest ≡ request ∷ later) where
+    -- each of them, and of those behind the next one, allows a frame
+    to_come : AllByRecursion (HasFrame Allows) (request ∷ later)
+    to_come = subst (AllByRecursion (HasFrame Allows)) next s.to_come
+
+    -- with its frame and one for each later request there is a whole output
+    whole : {frame : Frame} → Allows request frame → (text : List ℕ) → spelling frame ≡ Some text → (more : List ℕ) × FramesOf Allows all (s.w ++ (text ++ more))
+    whole {frame} allowed text spelled =
+        let full = frames_front Allows (s.front ++ request ∷ []) later (s.w ++ text)
+        (frames_more Allows s.front request frame text s.w s.frames allowed spelled) to_come.1 in
+        let same : (s.front ++ request ∷ []) ++ later ≡ all =
+        append_assoc s.front (request ∷ []) later ∙ sym (s.parts ∙ ap (λ (l : List A). s.front ++ l) next) in (
+          full.0,
+          subst (λ (l : List ℕ). FramesOf Allows all l) (append_assoc s.w text full.0)
+              (subst (λ (l : List A). FramesOf Allows l ((s.w ++ text) ++ full.0)) same full.1),
+        )
+
+    module _ {frame : Frame} (allowed : Allows request frame) {new : Option (List ℕ)} {now : ℕ} where
+      -- the next frame was written
+      pub served_on : {SameText : Type 0} → Ends (Writes frame) mid new counted now SameText Done → IsServed Allows old new before now all later
+      served_on ends =
+          let wrote = ends.leaves in
+          record {
+            front = s.front ++ request ∷ [];
+            w = s.w ++ wrote.0;
+            frames = frames_more Allows s.front request frame wrote.0 s.w s.frames allowed wrote.1.0;
+            taken = Appends-trans old mid new s.w wrote.0 s.taken wrote.2;
+            parts = s.parts ∙ ap (λ (l : List A). s.front ++ l) next ∙ sym (append_assoc s.front (request ∷ []) later);
+            to_come = to_come.1;
+            told = (λ x. ends.told.0 (s.told.0 x), λ x. s.told.1 (ends.told.1 x));
+            faults = ends.faults ∙ s.faults;
+          }
+
+      -- memory ran out at it
+      stopped_memory : (text : List ℕ) → spelling frame ≡ Some text → OutputsFront (Writes frame) mid new → now ≡ counted → (IsSome mid ↔ IsSome new)
+          → (Same : Type 0) → Ends (GivesFrames Allows all) old new before now Same NoMemory
+      stopped_memory text spelled h same told Same =
+          let full = whole allowed text spelled in
+          let proper = proper_on s.w h.0 text full.0 (proper_part frame text h.0 spelled h.2) in
+          record {
+            leaves = (s.w ++ h.0, Appends-trans old mid new s.w h.0 s.taken h.1, inr (s.w ++ (text ++ full.0), Done, (full.1, refl), proper));
+            faults = same ∙ s.faults;
+            told = (λ x. told.0 (s.told.0 x), λ x. s.told.1 (told.1 x));
+            untouched = tt;
+            own = tt;
+          }
+
+      -- it was not written whole
+      pub served_stopped : IsSome (spelling frame) → {SameText : Type 0} (Same : Type 0) (status : Status) → (status ≡ Done → ⊥)
+          → Ends (Writes frame) mid new counted now SameText status → Ends (GivesFrames Allows all) old new before now Same status
+      served_stopped spelled Same Done failed ends = absurd (failed refl)
+      served_stopped spelled Same Usage failed ends = absurd ends.own
+      served_stopped spelled Same (PickFault i) failed ends = absurd ends.own
+      served_stopped spelled Same (ReadFault i) failed ends = absurd ends.own
+      served_stopped spelled Same (TooLong i) failed ends = absurd ends.own
+      served_stopped spelled Same (BadInput i at) failed ends = absurd (failed ends.leaves.1.1)
+      served_stopped spelled Same (BadBlock why) failed ends = absurd (failed ends.leaves.1.1)
+      served_stopped spelled Same (BadList why) failed ends = absurd (failed ends.leaves.1.1)
+      served_stopped spelled Same (BadRequest why) failed ends = absurd (failed ends.leaves.1.1)
+      served_stopped spelled Same (Fraud axis i) failed ends = absurd (failed ends.leaves.1.1)
+      served_stopped spelled Same (Missing cells lies) failed ends = absurd (failed ends.leaves.1.1)
+      served_stopped spelled Same Clash failed ends = absurd (failed ends.leaves.1.1)
+      served_stopped spelled Same Refused failed ends = absurd (failed ends.leaves.1.1)
+      served_stopped spelled Same (Waiting cells) failed ends = absurd (failed ends.leaves.1.1)
+      served_stopped spelled Same WriteFault failed ends =
+          let h = ends.leaves in
+          let full = whole allowed h.0 h.2.0 in
+          ends_in_fault (GivesFrames Allows all) (s.w ++ (h.0 ++ full.0)) Done old new before now Same (full.1, refl)
+          (part_of_back old mid new s.w (h.0 ++ full.0) s.taken (part_of_front mid new h.0 full.0 h.3))
+          (ends.faults ∙ ap (λ (n : ℕ). count_on n 1) s.faults) (λ x. ends.told.0 (s.told.0 x), λ x. s.told.1 (ends.told.1 x))
+      served_stopped spelled Same NoMemory failed ends =
+          let text = some_there (spelling frame) spelled in stopped_memory text.0 text.1 ends.leaves ends.faults ends.told Same
+
+    -- memory ran out before the next frame was made
+    pub served_memory : (Same : Type 0) → Ends (GivesFrames Allows all) old mid before counted Same NoMemory
+    served_memory Same =
+        let first = to_come.0 in
+        let text = some_there (spelling first.0) first.2 in
+        stopped_memory first.1 text.0 text.1 ([], Appends-nil mid, inl refl) refl (λ x. x, λ x. x) Same
 
 -- ---- what is answered over a square
 
@@ -164,10 +171,10 @@ module _ {A : Type 0} (square : SquareShares) (test : A → Bool) (Allows : Root
   serves_gives header own none w status gives = inl (header, own, subst (λ (o : Option ℕ). answers_by o header w status) (sym none) gives)
 
   -- so it ends by what is answered over the square
-  pub serves_ends : (header : Roots) → IsHeaderOf header square → failing_from test 0 requests ≡ None → (old new : Option (List ℕ)) (before now : ℕ) (Same : Type 0)
-      (status : Status) → Ends (GivesFrames (Allows header) requests) old new before now Same status → Ends (Serves square test Allows requests) old new before now Same status
-  serves_ends header own none old new before now Same status ends =
-      ends_within (GivesFrames (Allows header) requests) (Serves square test Allows requests) old new before now Same status (serves_gives header own none) ends
+  pub serves_ends : {header : Roots} → IsHeaderOf header square → failing_from test 0 requests ≡ None → {old new : Option (List ℕ)} {before now : ℕ} {Same : Type 0}
+      {status : Status} → Ends (GivesFrames (Allows header) requests) old new before now Same status → Ends (Serves square test Allows requests) old new before now Same status
+  serves_ends {header} own none ends =
+      ends_within (GivesFrames (Allows header) requests) (Serves square test Allows requests) _ _ _ _ _ _ (serves_gives header own none) ends
 
   -- the first request that fails the test
   pub serves_at : (header : Roots) (i : ℕ) → IsHeaderOf header square → failing_from test 0 requests ≡ Some i → Serves square test Allows requests [] (BadRequest (At i))

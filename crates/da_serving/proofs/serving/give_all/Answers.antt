@@ -1,6 +1,5 @@
-use Rattle.std.proofs.Common.{◌≡◌, ◌∙◌, true, refl, sym, subst}
+use Rattle.std.proofs.Common.{◌≡◌, true, refl, sym, subst}
 use Rattle.std.specs.List.{AllByRecursion}
-use Rattle.da_serving.specs.Choices.{HasFrame}
 use Rattle.da_serving.specs.Serving.{IsMadeServer, Serves}
 use Rattle.da_status.proofs.EndLemmas.{ends_request}
 use Rattle.da_files.proofs.RequestLemmas.{all_pass}
@@ -22,12 +21,7 @@ loop-next-init g c =
     let square = c.args.square in
     let made = subst (IsMadeServer g.S.Server.serves square) c.in-Ok-Some.field-0-is c.in-Ok-Some.ensures in
     let pass = all_pass (g.S.Server.passes square) 0 _ c.requires in
-    record {
-      under = (made.0, made.1, made.2, served_none (g.S.Server.allows square made.0) _ _, c.law.ensures square made.0 made.1 pass);
-      pass = pass;
-      told = (λ s. s, λ s. s);
-      faults = refl;
-    }
+    record { under = (made.0, made.1, made.2, served_none (g.S.Server.allows square made.0) _ _ _ (c.law.ensures square made.0 made.1 pass)); pass = pass }
 
 -- the next request passes
 pub frame-requires : goal.frame-requires
@@ -39,50 +33,35 @@ frame-requires g c =
 -- there was no memory for the next frame
 pub returns-in_default-frame : goal.returns-in_default-frame
 returns-in_default-frame g c =
-    let square = c.args.square in
     let under = c.loop-next.invariant.under in
-    serves_ends square (g.S.Server.passes square) (g.S.Server.allows square) _ under.0 under.1 c.requires _ _ _ _ _ _
-    (served_memory (g.S.Server.allows square under.0) _ _ _ _ _ _ _ under.3
-    (c.in-Some.next.0, g.S.Server.asked c.in-Some.next.1.now, c.in-Some.ensures.0) under.4
-    c.loop-next.invariant.faults c.loop-next.invariant.told)
+    serves_ends c.args.square (g.S.Server.passes c.args.square) (g.S.Server.allows c.args.square) _ under.1 c.requires (served_memory under.3 c.in-Some.ensures.0 _)
 
 -- the next frame was written
 pub loop-next-preserved : goal.loop-next-preserved
 loop-next-preserved g c =
     let square = c.args.square in
     let under = c.loop-next.invariant.under in
-    let frames = subst (AllByRecursion (HasFrame (g.S.Server.allows square under.0))) c.in-Some.ensures.0 under.4 in
     let pass = subst (AllByRecursion (λ request. g.S.Server.passes square request ≡ true)) c.in-Some.ensures.0 c.loop-next.invariant.pass in
     record {
       under = (
         under.0,
         under.1,
         subst (λ server. g.S.Server.serves server square under.0) (sym c.in-Ok.ensures.kept) under.2,
-        served_on (g.S.Server.allows square under.0) _ _ _ _ _ _ c.in-Some.next.0 c.in-Ok.frame under.3 c.in-Some.ensures.0
-            (c.in-Ok.ensures.allowed square under.0 under.2) c.in-Done.ensures.ends.leaves,
-        frames.1,
+        served_on under.3 c.in-Some.ensures.0 (c.in-Ok.ensures.allowed square under.0 under.2) c.in-Done.ensures.ends,
       );
       pass = pass.1;
-      told = (λ s. c.give-status.ensures.ends.told.0 (c.loop-next.invariant.told.0 s), λ s. c.loop-next.invariant.told.1 (c.give-status.ensures.ends.told.1 s));
-      faults = c.in-Done.ensures.ends.faults ∙ c.loop-next.invariant.faults;
     }
 
 -- it was not written whole
 pub returns-in_default-status : goal.returns-in_default-status
 returns-in_default-status g c =
-    let square = c.args.square in
     let under = c.loop-next.invariant.under in
-    let frames = subst (AllByRecursion (HasFrame (g.S.Server.allows square under.0))) c.in-Some.ensures.0 under.4 in
-    serves_ends square (g.S.Server.passes square) (g.S.Server.allows square) _ under.0 under.1 c.requires _ _ _ _ _ _
-    (served_stopped (g.S.Server.allows square under.0) _ _ _ _ _ _ c.in-Some.next.0 c.in-Ok.frame _ _ _ under.3 c.in-Some.ensures.0
-    (c.in-Ok.ensures.allowed square under.0 under.2) frames.1
-    (λ s. c.give-status.ensures.ends.told.0 (c.loop-next.invariant.told.0 s), λ s. c.loop-next.invariant.told.1 (c.give-status.ensures.ends.told.1 s))
-    _ c.loop-next.invariant.faults c.in-Ok.ensures.spelled _ c.give-status.result c.in_default-status.not-Done c.give-status.ensures.ends)
+    serves_ends c.args.square (g.S.Server.passes c.args.square) (g.S.Server.allows c.args.square) _ under.1 c.requires
+    (served_stopped under.3 c.in-Some.ensures.0 (c.in-Ok.ensures.allowed c.args.square under.0 under.2) c.in-Ok.ensures.spelled _ c.give-status.result
+    c.in_default-status.not-Done c.give-status.ensures.ends)
 
 -- no request is left
 pub returns : goal.returns
 returns g c =
-    let square = c.args.square in
     let under = c.loop-next.invariant.under in
-    serves_ends square (g.S.Server.passes square) (g.S.Server.allows square) _ under.0 under.1 c.requires _ _ _ _ _ _
-    (served_all (g.S.Server.allows square under.0) _ _ _ _ _ _ _ under.3 c.in_default.ensures c.loop-next.invariant.faults c.loop-next.invariant.told)
+    serves_ends c.args.square (g.S.Server.passes c.args.square) (g.S.Server.allows c.args.square) _ under.1 c.requires (served_all under.3 c.in_default.ensures _)
