@@ -108,30 +108,33 @@ prove_answers files w status h = over_answers is_asked_inside AllowsRootProof sa
 holds_range : (root : List ℕ) (proof : CommitParts) → CommitHolds root proof → is_range proof.k proof.start proof.count ≡ true
 holds_range root proof h = (shape_parts proof h.shape).1
 
-module _ (square : SquareShares) (header : Roots) (start count : ℕ) (same : header.k ≡ square.k) where
+module _ (square : SquareShares) (header : Roots) (start count : ℕ) (own : IsHeaderOf header square) where
+  -- the square's header is of its width
+  same : header.k ≡ square.k
+  same = header_width square.k own.grid header own.roots
+
   -- the frame of a proof of the range is the answer
   pub proves_range : (proof : CommitParts) (frame : Frame) → proof.k ≡ header.k → proof.start ≡ start → proof.count ≡ count
       → IsCommit proof → CommitHolds (data_root_of header) proof → frame ≡ Commit proof → (w : List ℕ) (status : Status) → Writes frame w status
-      → ProvesIn (is_range square.k start count) square header start count w status
+      → ProvesRange square start count w status
   proves_range proof frame k from n lengths holds is w status gives =
       let here : is_range proof.k proof.start proof.count ≡ is_range square.k start count =
       ap (λ (x : ℕ). is_range x proof.start proof.count) (k ∙ same) ∙ ap₂ (λ (x y : ℕ). is_range square.k x y) from n in
       let range : is_range square.k start count ≡ true = sym here ∙ holds_range (data_root_of header) proof holds in
-      subst (λ (b : Bool). ProvesIn b square header start count w status) (sym range)
-      (proof, record { width = k ∙ same; start = from; count = n; lengths = lengths; holds = holds }, (ap spelling (sym is) ∙ gives.0, gives.1))
+      inl (
+        header,
+        own,
+        subst (λ (b : Bool). ProvesIn b square header start count w status) (sym range)
+            (proof, record { width = k ∙ same; start = from; count = n; lengths = lengths; holds = holds }, (ap spelling (sym is) ∙ gives.0, gives.1)),
+      )
 
   -- what is no range of the square is refused
-  pub proves_none : is_range header.k start count ≡ false → ProvesIn (is_range square.k start count) square header start count [] (BadRequest Range)
+  pub proves_none : is_range header.k start count ≡ false → ProvesRange square start count [] (BadRequest Range)
   proves_none none =
       let outside : is_range square.k start count ≡ false = ap (λ (x : ℕ). is_range x start count) (sym same) ∙ none in
-      subst (λ (b : Bool). ProvesIn b square header start count [] (BadRequest Range)) (sym outside) (refl, refl)
+      inl (header, own, subst (λ (b : Bool). ProvesIn b square header start count [] (BadRequest Range)) (sym outside) (refl, refl))
 
 module _ (square : SquareShares) (start count : ℕ) where
-  -- what is answered under the header of the square is what is answered
-  pub proves_under : (header : Roots) → IsHeaderOf header square → (w : List ℕ) (status : Status)
-      → ProvesIn (is_range square.k start count) square header start count w status → ProvesRange square start count w status
-  proves_under header own w status h = inl (header, own, h)
-
   -- the square has no header
   pub proves_nothing : (k : ℕ) (grid : List Share) → k ≡ square.k → None ≡ header_of_grid k grid
       → ((header : Roots) → header_of_grid square.k grid ≡ None → IsHeaderOf header square → ⊥)

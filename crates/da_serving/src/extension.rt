@@ -27,29 +27,6 @@ pub(crate) enum Extension {
     Left(LeftHalf),
 }
 
-/// The whole extension of a square; nothing where the square has no header.
-fn whole(alloc: Global, square: Square) -> Result<Option<Extension>, NoMemory>
-    ensures { IfOk result (IsMadeServer IsExtensionOf square) }
-{
-    serve_laws();
-    match Held::of(alloc, square) {
-        Ok(held) => Ok(Some(Extension::Whole(held))),
-        Err(HeldError::NoHeader) => Ok(None),
-        Err(HeldError::NoMemory) => Err(NoMemory),
-    }
-}
-
-/// The left half of it.
-fn left(alloc: Global, square: Square) -> Result<Option<Extension>, NoMemory>
-    ensures { IfOk result (IsMadeServer IsExtensionOf square) }
-{
-    match LeftHalf::of(alloc, square) {
-        Ok(Some(half)) => Ok(Some(Extension::Left(half))),
-        Ok(None) => Ok(None),
-        Err(error) => Err(error),
-    }
-}
-
 impl Extension {
     /// That of a square for these requests for samples: the left half where they are few and the square is wider than
     /// `narrow`. Nothing where the square has no header.
@@ -61,10 +38,17 @@ impl Extension {
     ) -> Result<Option<Extension>, NoMemory>
         ensures { IfOk result (IsMadeServer IsExtensionOf square) }
     {
+        serve_laws();
         if square.k > narrow && requests.len() <= FEW {
-            left(alloc, square)
-        } else {
-            whole(alloc, square)
+            let Some(half) = LeftHalf::of(alloc, square)? else {
+                return Ok(None);
+            };
+            return Ok(Some(Extension::Left(half)));
+        }
+        match Held::of(alloc, square) {
+            Ok(held) => Ok(Some(Extension::Whole(held))),
+            Err(HeldError::NoHeader) => Ok(None),
+            Err(HeldError::NoMemory) => Err(NoMemory),
         }
     }
 

@@ -3,14 +3,13 @@
 
 ghost use Rattle.std.specs.Prelude.{◌≡◌, Some, true, false, IfOk, IsErrOf, IsSome, ◌∷◌, []};
 ghost use Rattle.data_header.specs.DataRoots.{data_root_of};
-ghost use Rattle.square_layout.specs.Blocks.{SquareShares};
 ghost use Rattle.axis_roots.specs.Grids.{header_of_grid};
 ghost use Rattle.axis_roots.specs.Openings.{IsProved};
 ghost use Rattle.blob_commit.specs.Proofs.{has_commit_shape, is_range, CommitHolds, RootedHolds};
 ghost use Rattle.da_wire.specs.declared.frames.Frame.TheVariants as FrameOf;
 ghost use Rattle.da_wire.specs.Spelling.{spelling, sample_kind};
 ghost use Rattle.da_files.specs.Contents.{contents_of};
-ghost use Rattle.da_serving.specs.Prove.{ProvesIn, ProvesRange, ProveOf, ProveRangeOf};
+ghost use Rattle.da_serving.specs.Prove.{ProvesRange, ProveOf, ProveRangeOf};
 ghost use Rattle.da_files.specs.Forms.{requests_judged, single_judged};
 ghost use Rattle.da_files.specs.Frames.{square_in};
 ghost use Rattle.da_status.specs.Judging.{Judged};
@@ -152,34 +151,8 @@ fn range_proof(
     prove_commit(alloc, &roots, &trees, start, count)
 }
 
-/// Writes the proof of a range under the header of the square's grid, or refuses what is no range of
-/// the square.
-fn give_range<O: Sink>(
-    alloc: Global,
-    grid: &Grid,
-    header: &Header,
-    start: u32,
-    count: u32,
-    out: &mut O,
-) -> Status
-    requires { header_of_grid grid.now.k grid.now.shares ≡ Some header.now }
-    ensures { (square : SquareShares) → header.now.k ≡ square.k →
-        EndsAtOnce (ProvesIn (is_range square.k start count) square header.now start count)
-        (O.taken out.old) (O.taken out.new) (O.faults out.old) (O.faults out.new)
-        (out.new ≡ out.old) result }
-{
-    match range_proof(alloc, grid, header, start, count) {
-        Ok(proof) => {
-            commit_law(&proof);
-            give(commit_frame(proof), &mut Vec::new(alloc), out)
-        }
-        Err(ProveError::Range) => Status::BadRequest(Asked::Range),
-        Err(ProveError::NoMemory) => Status::NoMemory,
-    }
-}
-
-/// Writes the proof of a range of a square, if the square has a header. All memory is taken before
-/// the write.
+/// Writes the proof of a range of a square, if the square has a header and the range is one of it. All memory is
+/// taken before the write.
 fn prove_range<O: Sink>(
     alloc: Global,
     square: &Square,
@@ -195,10 +168,18 @@ fn prove_range<O: Sink>(
     let Ok(grid) = Grid::extend(alloc, square) else {
         return Status::NoMemory;
     };
-    match header_of(alloc, &grid) {
-        Ok(Some(header)) => give_range(alloc, &grid, &header, start, count, out),
-        Ok(None) => Status::BadRequest(Asked::NoHeader),
-        Err(_) => Status::NoMemory,
+    let header = match header_of(alloc, &grid) {
+        Ok(Some(header)) => header,
+        Ok(None) => return Status::BadRequest(Asked::NoHeader),
+        Err(_) => return Status::NoMemory,
+    };
+    match range_proof(alloc, &grid, &header, start, count) {
+        Ok(proof) => {
+            commit_law(&proof);
+            give(commit_frame(proof), &mut Vec::new(alloc), out)
+        }
+        Err(ProveError::Range) => Status::BadRequest(Asked::Range),
+        Err(ProveError::NoMemory) => Status::NoMemory,
     }
 }
 

@@ -2,7 +2,7 @@
 
 ghost use Rattle.std.specs.Prelude.{◌≡◌};
 ghost use Rattle.da_files.specs.Contents.{contents_of};
-ghost use Rattle.da_serving.specs.Transactions.{WritesList, Unlays, TransactionsOf};
+ghost use Rattle.da_serving.specs.Transactions.{Unlays, TransactionsOf};
 ghost use Rattle.da_files.specs.Forms.{single_judged};
 ghost use Rattle.da_files.specs.Frames.{square_in};
 ghost use Rattle.da_status.specs.Judging.{Judged};
@@ -13,34 +13,27 @@ use da_io::Sink;
 use da_status::{Asked, Status};
 use da_wire::{Frame, SpellError, write_frame};
 use frame_payloads::UnitList;
-use share_split::Unit;
 use square_layout::Square;
 use std::alloc::Global;
 use tx_list::{BackError, unlay_list};
 
-/// Writes the frame of a list, if it has a spelling. All memory is taken before the write.
-fn give_list<O: Sink>(alloc: Global, list: Vec<Unit>, out: &mut O) -> Status
-    ensures { EndsAtOnce (WritesList list.items) (O.taken out.old) (O.taken out.new)
-        (O.faults out.old) (O.faults out.new) (out.new ≡ out.old) result }
+/// Writes the list that a square is laid out of, if there is one and it has a spelling. All memory is taken before the
+/// write.
+fn unlay<O: Sink>(alloc: Global, square: &Square, out: &mut O) -> Status
+    ensures { EndsAtOnce (Unlays square.now) (O.taken out.old) (O.taken out.new) (O.faults out.old)
+        (O.faults out.new) (out.new ≡ out.old) result }
 {
+    let list = match unlay_list(alloc, square) {
+        Ok(list) => list,
+        Err(BackError::NoMemory) => return Status::NoMemory,
+        Err(why) => return Status::BadRequest(Asked::NoList(why)),
+    };
     let frame = Frame::Transactions(UnitList { list });
     let mut text = Vec::new(alloc);
     match write_frame(&frame, &mut text) {
         Ok(()) => put(&text, Status::Done, out),
         Err(SpellError::Unspellable) => Status::BadRequest(Asked::LongList),
         Err(SpellError::NoMemory) => Status::NoMemory,
-    }
-}
-
-/// Writes the list that a square is laid out of, if there is one. All memory is taken before the write.
-fn unlay<O: Sink>(alloc: Global, square: &Square, out: &mut O) -> Status
-    ensures { EndsAtOnce (Unlays square.now) (O.taken out.old) (O.taken out.new) (O.faults out.old)
-        (O.faults out.new) (out.new ≡ out.old) result }
-{
-    match unlay_list(alloc, square) {
-        Ok(list) => give_list(alloc, list, out),
-        Err(BackError::NoMemory) => Status::NoMemory,
-        Err(why) => Status::BadRequest(Asked::NoList(why)),
     }
 }
 
