@@ -1,5 +1,5 @@
 -- What the command blobs answers.
-use Rattle.std.proofs.Common.{◌≡◌, ◌∙◌, ℕ, ◌+◌, ◌*◌, ◌-◌, ◌≤◌, nat_le, Bool, true, false, cond, List, [], ◌∷◌, ◌++◌, length, Some, None, IsSome, is_some, IfSome, Result, Ok, Err, refl, sym, ap, subst, inl, inr, arith, lit<, leb-true, leb-false, ltb-false}
+use Rattle.std.proofs.Common.{◌≡◌, ◌∙◌, ℕ, ◌+◌, ◌*◌, ◌-◌, ◌≤◌, nat_le, Bool, true, false, cond, List, [], ◌∷◌, length, Some, None, IsSome, is_some, IfSome, Result, Ok, Err, refl, sym, ap, subst, inl, inr, arith, lit<, leb-true, leb-false, ltb-false}
 use Rattle.std.specs.Prelude.{MatchResult, nat_lt}
 use Rattle.std.proofs.Math.Nat.{mul-le-mul_right}
 use Rattle.std.specs.declared.option.Option.{Option}
@@ -14,7 +14,7 @@ use Rattle.namespace_id.specs.declared.namespaces.Namespace as names
 use Rattle.namespace_id.specs.declared.shares.Share.{Share}
 use Rattle.namespace_id.proofs.WidthLemmas.{is_width-le}
 use Rattle.share_split.specs.declared.joining.JoinError.{JoinError}
-use Rattle.share_split.specs.Blobs.{NamedBytes, signer_size, version_of, signer_bytes, count_from, share_count}
+use Rattle.share_split.specs.Blobs.{NamedBytes, signer_size, signer_bytes, count_from, share_count}
 use Rattle.share_split.specs.Joined.{Piece, padding, blob, piece_shares, piece_blobs, IsPiece, AreBlobs}
 use Rattle.share_split.specs.Walks.{blobs_joined}
 use Rattle.share_split.proofs.Writing.BlobLaws.{length-blob_shares_of}
@@ -29,6 +29,7 @@ use Rattle.da_wire.specs.Spelling.{spelling, frame, spelled, names_kind}
 use Rattle.da_wire.specs.Laws.{OnlyIsSpelled}
 use Rattle.da_wire.specs.Reading.{only_of}
 use Rattle.frame_payloads.specs.kinds.Block.{blob_bytes}
+use Rattle.frame_payloads.proofs.Forms.Blobs.{length-blob_bytes}
 use Rattle.frame_payloads.specs.kinds.Names.{is_long_found, is_long_entry, is_long_answer, names_payload, most_entries}
 use Rattle.da_status.specs.declared.status.Status.{Status}
 use Rattle.da_status.specs.declared.status.Status.TheVariants.{BadRequest}
@@ -82,30 +83,18 @@ signer_fits : (signer : Option (List ℕ)) (size : ℕ) → IfSome signer (IsStr
 signer_fits None size is = omega (arith, count_fits 478 34 size refl)
 signer_fits (Some signer) size is = omega (arith, is.size_is, count_fits 458 54 size refl)
 
--- a blob is written in as many bytes as its namespace, its version, its signer, a length and its bytes are
-length-blob_bytes : (named : NamedBytes) → length named.namespace.0 ≡ 29
-    → length (blob_bytes named) ≡ length named.bytes + length (signer_bytes named.signer) + 34
-length-blob_bytes named name =
-    let signer : List ℕ = signer_bytes named.signer in
-    let count : List ℕ = to_be_bytes w32 (length named.bytes) in
-    let four : length count ≡ 4 = refl in
-    omega (
-      arith,
-      name,
-      four,
-      length-append named.namespace.0 (version_of named.signer ∷ signer ++ (count ++ named.bytes)),
-      length-append signer (count ++ named.bytes),
-      length-append count named.bytes,
-    )
-
 -- what is written of a piece fits into its shares
 piece_fits : (piece : Piece) → IsPiece piece → length (flat_map blob_bytes (piece_blobs piece)) ≤ 512 * length (piece_shares piece)
 piece_fits (padding version name) is = omega arith
 piece_fits (blob named) is =
+    let four : length (to_be_bytes w32 (length named.bytes)) ≡ 4 = refl in
     omega (
       arith,
+      four,
       length-append (blob_bytes named) [],
-      length-blob_bytes named is.name.size_is,
+      length-blob_bytes named,
+      length-append (to_be_bytes w32 (length named.bytes)) named.bytes,
+      is.name.size_is,
       signer_fits named.signer (length named.bytes) is.signer,
       length-blob_shares_of named.namespace named.signer named.bytes,
     )

@@ -1,18 +1,15 @@
 -- What the command build answers.
-use Rattle.std.proofs.Common.{◌≡◌, ◌∙◌, ℕ, List, Some, None, refl, sym, ap, subst}
+use Rattle.std.proofs.Common.{◌≡◌, ℕ, List, Some, None, refl, sym, subst}
 use Rattle.std.specs.Prelude.{MatchOption}
 use Rattle.std.specs.declared.option.Option.{Option}
 use Rattle.std.specs.Option.{option_or}
-use Rattle.square_layout.specs.Blocks.{BlockParts, SquareShares}
 use Rattle.square_layout.specs.Layout.{block_square}
 use Rattle.square_layout.specs.Refusals.{layout_refusal}
 use Rattle.tx_list.specs.declared.refusals.ListError.{ListError}
-use Rattle.tx_list.specs.Payments.{ListParts}
 use Rattle.tx_list.specs.Reads.{list_of}
 use Rattle.tx_list.specs.Lists.{square_of_list}
 use Rattle.tx_list.specs.ReadRefusals.{read_refusal}
 use Rattle.tx_list.specs.Refusals.{list_size_refusal}
-use Rattle.da_wire.specs.declared.frames.Frame.{Frame}
 use Rattle.da_wire.specs.declared.frames.Frame.TheVariants.{Square}
 use Rattle.da_wire.specs.Spelling.{spelling}
 use Rattle.da_status.specs.declared.status.Status.{Status}
@@ -21,8 +18,8 @@ use Rattle.da_status.specs.Statuses.{status_kind}
 use Rattle.da_status.specs.Outcome.{Relation, Refuses}
 use Rattle.da_files.specs.declared.frames.BlockOrList.{BlockOrList}
 use Rattle.da_files.specs.declared.frames.BlockOrList.TheVariants.{Block, Transactions}
-use Rattle.da_files.specs.Frames.{block_or_list_in, Writes}
-use Rattle.da_serving.specs.Build.{block_file, Builds, list_refusal, BuildsList, BuildsEither, BuildOf}
+use Rattle.da_files.specs.Frames.{block_or_list_in}
+use Rattle.da_serving.specs.Build.{block_file, list_refusal, BuildsEither, BuildOf}
 use Rattle.da_status.proofs.EndLemmas.{IsAnswer, status_answers}
 use Rattle.da_files.proofs.FormLemmas.{over_each}
 
@@ -43,18 +40,6 @@ module _ {E : Type 0} (refused : E → Status) where
   written_answers answers Fact None w status h = status_answers status Done h.1 tt
   written_answers answers Fact (Some why) w status h = status_answers status (refused why) h.1 (answers why)
 
--- the frame of a square is what is written of one that is the same
-square_written : (made square : SquareShares) (frame : Frame) → made ≡ square → frame ≡ Square made → (w : List ℕ) (status : Status)
-    → Writes frame w status → Writes (Square square) w status
-square_written made square frame same is w status gives = (ap spelling (sym (is ∙ ap Square same)) ∙ gives.0, gives.1)
-
--- the frame of the square of a block without a refusal
-pub builds_square : (block : BlockParts) (square : SquareShares) (frame : Frame) → layout_refusal block ≡ None → square ≡ block_square block
-    → frame ≡ Square square → (w : List ℕ) (status : Status) → Writes frame w status → Builds block w status
-builds_square block square frame fine laid is w status gives =
-    written_for BadBlock (Writes (Square (block_square block))) (layout_refusal block) fine w status
-    (square_written square (block_square block) frame laid is w status gives)
-
 -- ---- lists of transactions
 
 -- of two refusals the second is none where there is none
@@ -74,19 +59,6 @@ both_fine transactions fine = (
   first_none (read_refusal transactions) (list_size_refusal (list_of transactions)) fine,
   later_none (read_refusal transactions) (list_size_refusal (list_of transactions)) fine,
 )
-
--- one that is read without a refusal isn't refused for its size
-pub whole_fits : (transactions : List (List ℕ)) (list : ListParts) → list_refusal transactions ≡ None → list ≡ list_of transactions
-    → list_size_refusal list ≡ None
-whole_fits transactions list fine is = ap list_size_refusal is ∙ later_none (read_refusal transactions) (list_size_refusal (list_of transactions)) fine
-
--- the frame of the square of a list without a refusal
-pub builds_list : (transactions : List (List ℕ)) (square : SquareShares) (frame : Frame) → list_refusal transactions ≡ None
-    → square ≡ square_of_list (list_of transactions) → frame ≡ Square square → (w : List ℕ) (status : Status) → Writes frame w status
-    → BuildsList transactions w status
-builds_list transactions square frame fine laid is w status gives =
-    written_for BadList (Writes (Square (square_of_list (list_of transactions)))) (list_refusal transactions) fine w status
-    (square_written square (square_of_list (list_of transactions)) frame laid is w status gives)
 
 -- ---- what build answers to its files
 

@@ -21,36 +21,24 @@ use Rattle.tx_list.specs.declared.refusals.ListError as lists
 use Rattle.tx_list.specs.declared.refusals.ListError.TheVariants.{TooLarge}
 use Rattle.tx_list.specs.Payments.{PaymentParts, ListParts, IsPayment, IsLayable, blobs_of}
 use Rattle.tx_list.specs.Reserves.{list_bound}
-use Rattle.tx_list.specs.Refusals as sizes
+use Rattle.tx_list.specs.Refusals.{list_size_refusal}
 use Rattle.square_layout.specs.Refusals.{max_shares, most_told, bad_blob, empty_blob, blobs_refusal, size_refusal, layout_refusal}
 use Rattle.blob_commit.specs.Proofs.{is_range}
 use Rattle.blob_commit.proofs.WidthLemmas.{square_bound}
 use Rattle.blob_commit.proofs.CommitOwnLemmas.{range_parts}
 use Rattle.da_status.specs.declared.status.Status.{Status}
-use Rattle.da_status.specs.declared.status.Status.TheVariants.{Done, BadBlock, BadList}
+use Rattle.da_status.specs.declared.status.Status.TheVariants.{BadBlock, BadList}
 use Rattle.da_status.specs.Statuses.{status_kind}
 use Rattle.da_files.specs.declared.frames.BlockOrList.{BlockOrList}
 use Rattle.da_files.specs.declared.frames.BlockOrList.TheVariants.{Block, Transactions}
-use Rattle.da_files.specs.Frames.{block_or_list_in, WritesText}
+use Rattle.da_files.specs.Frames.{block_or_list_in}
 use Rattle.da_serving.specs.Build.{block_file, list_refusal}
-use Rattle.da_serving.specs.Commit.{commitment_lines, Commits, list_lines, CommitsList, CommitsEither, CommitOf}
+use Rattle.da_serving.specs.Commit.{commitment_lines, list_lines, CommitsEither, CommitOf}
 use Rattle.da_status.proofs.EndLemmas.{IsAnswer}
 use Rattle.da_files.proofs.FormLemmas.{over_each}
-use Rattle.da_serving.proofs.BuildLemmas.{written_for, written_answers}
+use Rattle.da_serving.proofs.BuildLemmas.{written_answers}
 
 -- ---- answers
-
--- the lines of a block without a refusal
-pub commits_lines : (block : BlockParts) → layout_refusal block ≡ None → (w : List ℕ) (status : Status)
-    → WritesText Done (commitment_lines block.blobs) w status → Commits block w status
-commits_lines block fine w status gives =
-    written_for BadBlock (WritesText Done (commitment_lines block.blobs)) (layout_refusal block) fine w status gives
-
--- those of a list without one
-pub commits_list : (transactions : List (List ℕ)) → list_refusal transactions ≡ None → (w : List ℕ) (status : Status)
-    → WritesText Done (list_lines transactions) w status → CommitsList transactions w status
-commits_list transactions fine w status gives =
-    written_for BadList (WritesText Done (list_lines transactions)) (list_refusal transactions) fine w status gives
 
 -- what is answered to either is an answer
 either_answers : (block : BlockOrList) (w : List ℕ) (status : Status) → CommitsEither block w status → IsAnswer (status_kind status)
@@ -188,7 +176,7 @@ size_fits count true why is e = absurd cc
 size_fits count false why is e = ltb-false max_shares count is
 
 -- a list that isn't refused for its size has blobs that may take no more shares than the greatest square
-list_fits : (list : ListParts) → sizes.list_size_refusal list ≡ None → blobs_bound (blobs_of list.payments) ≤ max_shares
+list_fits : (list : ListParts) → list_size_refusal list ≡ None → blobs_bound (blobs_of list.payments) ≤ max_shares
 list_fits list fine =
     omega (arith, size_fits (list_bound list) (nat_lt max_shares (list_bound list)) (TooLarge (min (list_bound list) most_told)) refl fine)
 
@@ -219,6 +207,6 @@ payments_each (payment ∷ payments) are few =
     (each-both HasByte Few payment.blobs (layable_bytes payment.blobs are.0.blobs) parts.0, payments_each payments are.1 parts.1)
 
 -- such are those of a list that isn't refused for its size
-pub laid_payments : (list : ListParts) → AllByRecursion IsPayment list.payments → sizes.list_size_refusal list ≡ None
+pub laid_payments : (list : ListParts) → AllByRecursion IsPayment list.payments → list_size_refusal list ≡ None
     → AllByRecursion (λ (payment : PaymentParts). AllByRecursion IsLaid payment.blobs) list.payments
 laid_payments list are fine = payments_each list.payments are (bound_each (blobs_of list.payments) (list_fits list fine))

@@ -58,12 +58,10 @@ fn put_found(found: &Found, shares: &mut Vec<Share>) -> Result<(), NoMemory>
     ensures { OnOk result (shares.new.items ≡ shares.old.items ++ shares_found found.now) }
 {
     match found {
-        Found::Range { shares: found, .. } => match shares.extend_from_slice(&found.list) {
-            Ok(()) => Ok(()),
-            Err(_) => Err(NoMemory),
-        },
-        Found::Absence { .. } => Ok(()),
+        Found::Range { shares: found, .. } => shares.extend_from_slice(&found.list)?,
+        Found::Absence { .. } => {}
     }
+    Ok(())
 }
 
 /// The shares of a namespace answer, entry after entry.

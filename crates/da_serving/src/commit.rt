@@ -1,19 +1,17 @@
 //! commit BLOCK: the commitments of the blobs of a block, or of a list of transactions.
 
-ghost use Rattle.std.specs.Prelude.{◌≡◌, ◌≤◌, ◌++◌, length, None, IfOk, OnOk};
+ghost use Rattle.std.specs.Prelude.{◌≡◌, ◌≤◌, ◌++◌, length, IfOk, OnOk};
 ghost use Rattle.std.specs.List.{AllByRecursion};
 ghost use Rattle.square_layout.specs.Layout.{share_count_of};
 ghost use Rattle.square_layout.specs.Refusals.{max_shares, layout_refusal, AnswersLaying};
 ghost use Rattle.tx_list.specs.Payments.{blobs_of};
-ghost use Rattle.tx_list.specs.Reads.{list_of};
-ghost use Rattle.tx_list.specs.Refusals as lists;
+ghost use Rattle.tx_list.specs.Refusals.{AnswersList};
 ghost use Rattle.da_files.specs.Contents.{contents_of};
-ghost use Rattle.da_files.specs.Frames.{WritesText, block_or_list_in};
+ghost use Rattle.da_files.specs.Frames.{block_or_list_in};
 ghost use Rattle.da_serving.specs.Build.{list_refusal};
-ghost use Rattle.da_serving.specs.Commit.{commitment_of, commitment_line, commitment_lines, Commits, CommitsList, CommitsEither, CommitOf};
+ghost use Rattle.da_serving.specs.Commit.{commitment_of, commitment_line, commitment_lines, list_lines, Commits, CommitsList, CommitsEither, CommitOf};
 ghost use Rattle.da_files.specs.Forms.{single_judged};
 ghost use Rattle.da_status.specs.Judging.{Judged};
-ghost use Rattle.da_status.specs.declared.status.Status.TheVariants as StatusOf;
 ghost use Rattle.da_status.specs.Outcome.{EndsAtOnce};
 
 use blob_commit::{CommitError, commitment_of, range_laws};
@@ -24,7 +22,7 @@ use namespace_id::NoMemory;
 use share_split::{Blob, Unit};
 use square_layout::{Block, LayError, lay, order_laws, size_laws};
 use std::alloc::Global;
-use tx_list::{ListError, Payment, TxList, places, read_list};
+use tx_list::{ListError, Payment, places, read_list};
 
 /// The commitment of a blob that has bytes, and no more shares than the greatest square.
 pub(crate) fn commitment_in(alloc: Global, blob: &Blob) -> Result<[u8; 32], NoMemory>
@@ -49,10 +47,8 @@ fn put_line(alloc: Global, blob: &Blob, text: &mut Vec<u8>) -> Result<(), NoMemo
     ensures { OnOk result (text.new.items ≡ text.old.items ++ commitment_line blob.now) }
 {
     let line = hash_line(&commitment_in(alloc, blob)?);
-    match text.extend_from_slice(line.as_bytes()) {
-        Ok(()) => Ok(()),
-        Err(_) => Err(NoMemory),
-    }
+    text.extend_from_slice(line.as_bytes())?;
+    Ok(())
 }
 
 /// Appends the lines of such blobs, in their order.
@@ -67,17 +63,6 @@ fn put_lines(alloc: Global, blobs: &[Blob], text: &mut Vec<u8>) -> Result<(), No
         rest = after;
     }
     Ok(())
-}
-
-/// The lines of such blobs.
-fn lines(alloc: Global, blobs: &[Blob]) -> Result<Vec<u8>, NoMemory>
-    requires { AllByRecursion (λ blob.
-        (1 ≤ length blob.bytes) × (share_count_of blob ≤ max_shares)) blobs.now }
-    ensures { IfOk result (λ text. text.items ≡ commitment_lines blobs.now) }
-{
-    let mut text = Vec::new(alloc);
-    put_lines(alloc, blobs, &mut text)?;
-    Ok(text)
 }
 
 /// The lines of the blobs of payments, which are such blobs, payment after payment.
@@ -95,27 +80,20 @@ fn payment_lines(alloc: Global, payments: &[Payment]) -> Result<Vec<u8>, NoMemor
     Ok(text)
 }
 
-/// Whether a block can be laid out, or the first check that fails. Its square is let go.
-fn judge(alloc: Global, block: &Block) -> Result<(), LayError>
-    ensures { AnswersLaying result (layout_refusal block.now) }
-{
-    let _square = lay(alloc, block)?;
-    Ok(())
-}
-
-/// Writes the lines of the blobs of a block that can be laid out, as one piece.
-fn give_lines<O: Sink>(alloc: Global, block: &Block, out: &mut O) -> Status
-    requires { layout_refusal block.now ≡ None }
-    ensures { EndsAtOnce (WritesText StatusOf.Done (commitment_lines block.now.blobs))
-        (O.taken out.old) (O.taken out.new) (O.faults out.old) (O.faults out.new)
-        (out.new ≡ out.old) result }
+/// The lines of the blobs of a block that can be laid out, or the first check that fails. Its square is let go before
+/// they are made.
+fn block_lines(alloc: Global, block: &Block) -> Result<Vec<u8>, LayError>
+    ensures first { AnswersLaying result (layout_refusal block.now) }
+    ensures lines { IfOk result (λ text. text.items ≡ commitment_lines block.now.blobs) }
 {
     order_laws();
     size_laws();
     range_laws();
-    match lines(alloc, &block.blobs) {
-        Ok(text) => put(&text, Status::Done, out),
-        Err(_) => Status::NoMemory,
+    drop(lay(alloc, block)?);
+    let mut text = Vec::new(alloc);
+    match put_lines(alloc, &block.blobs, &mut text) {
+        Ok(()) => Ok(text),
+        Err(_) => Err(LayError::NoMemory),
     }
 }
 
@@ -125,34 +103,24 @@ fn commit<O: Sink>(alloc: Global, block: &Block, out: &mut O) -> Status
     ensures { EndsAtOnce (Commits block.now) (O.taken out.old) (O.taken out.new) (O.faults out.old)
         (O.faults out.new) (out.new ≡ out.old) result }
 {
-    match judge(alloc, block) {
-        Ok(()) => give_lines(alloc, block, out),
+    match block_lines(alloc, block) {
+        Ok(text) => put(&text, Status::Done, out),
         Err(LayError::NoMemory) => Status::NoMemory,
         Err(why) => Status::BadBlock(why),
     }
 }
 
-/// The list that transactions are read as, if it can be laid out, or the first check that fails. No square
-/// is made of it.
-fn judge_list(alloc: Global, transactions: Vec<Unit>) -> Result<TxList, ListError>
-    ensures first { lists.AnswersList result (list_refusal transactions.items) }
-    ensures list { IfOk result (λ list. list ≡ list_of transactions.items) }
+/// The lines of the blobs of a list of transactions that can be laid out, or the first check that fails. No square is
+/// made of it.
+fn list_lines(alloc: Global, transactions: Vec<Unit>) -> Result<Vec<u8>, ListError>
+    ensures first { AnswersList result (list_refusal transactions.items) }
+    ensures lines { IfOk result (λ text. text.items ≡ list_lines transactions.items) }
 {
     let list = read_list(alloc, transactions)?;
-    let _places = places(alloc, &list)?;
-    Ok(list)
-}
-
-/// Writes the lines of the blobs of a list that can be laid out, as one piece.
-fn give_payments<O: Sink>(alloc: Global, list: &TxList, out: &mut O) -> Status
-    requires { lists.list_size_refusal list.now ≡ None }
-    ensures { EndsAtOnce (WritesText StatusOf.Done (commitment_lines (blobs_of list.now.payments)))
-        (O.taken out.old) (O.taken out.new) (O.faults out.old) (O.faults out.new)
-        (out.new ≡ out.old) result }
-{
+    drop(places(alloc, &list)?);
     match payment_lines(alloc, &list.payments) {
-        Ok(text) => put(&text, Status::Done, out),
-        Err(_) => Status::NoMemory,
+        Ok(text) => Ok(text),
+        Err(_) => Err(ListError::NoMemory),
     }
 }
 
@@ -162,8 +130,8 @@ fn commit_list<O: Sink>(alloc: Global, transactions: Vec<Unit>, out: &mut O) -> 
     ensures { EndsAtOnce (CommitsList transactions.items) (O.taken out.old) (O.taken out.new)
         (O.faults out.old) (O.faults out.new) (out.new ≡ out.old) result }
 {
-    match judge_list(alloc, transactions) {
-        Ok(list) => give_payments(alloc, &list, out),
+    match list_lines(alloc, transactions) {
+        Ok(text) => put(&text, Status::Done, out),
         Err(ListError::NoMemory) => Status::NoMemory,
         Err(why) => Status::BadList(why),
     }

@@ -66,10 +66,8 @@ fn put_found(
         return Ok(());
     }
     let line = range_line(start, count_of(blob));
-    match text.extend_from_slice(line.as_bytes()) {
-        Ok(()) => Ok(()),
-        Err(_) => Err(NoMemory),
-    }
+    text.extend_from_slice(line.as_bytes())?;
+    Ok(())
 }
 
 /// The lines of the blobs that shares are, of which the first has this number.
