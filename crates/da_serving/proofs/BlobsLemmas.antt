@@ -165,24 +165,3 @@ answer_few name answer some =
 pub read_spelled : OnlyIsSpelled → (bytes : List ℕ) (frame : Frame) → AreBytes bytes → only_of bytes share_kinds ≡ Ok frame → IsSome (spelling frame)
 read_spelled only bytes frame fits read =
     let law = (only frame bytes share_kinds fits).0 read in subst (λ (o : Option (List ℕ)). IsSome o) (sym law.1) refl
-
--- ---- compact shares
-
--- the first share is compact
-pub behind_next : (all rest after : List Share) (share : Share) → behind_compact all ≡ behind_compact rest → rest ≡ share ∷ after → is_compact share ≡ true
-    → behind_compact all ≡ behind_compact after
-unfolding behind_compact
-behind_next all rest after share so_far next is =
-    so_far ∙ ap behind_compact next ∙ ap (λ (b : Bool). cond b (behind_compact after) (share ∷ after)) is
-
--- the first share isn't
-pub behind_here : (all rest after : List Share) (share : Share) → behind_compact all ≡ behind_compact rest → rest ≡ share ∷ after → is_compact share ≡ false
-    → behind_compact all ≡ rest
-unfolding behind_compact
-behind_here all rest after share so_far next is =
-    so_far ∙ ap behind_compact next ∙ ap (λ (b : Bool). cond b (behind_compact after) (share ∷ after)) is ∙ sym next
-
--- all shares are compact
-pub behind_none : (all rest : List Share) → behind_compact all ≡ behind_compact rest → rest ≡ [] → behind_compact all ≡ rest
-unfolding behind_compact
-behind_none all rest so_far none = so_far ∙ ap behind_compact none ∙ sym none

@@ -40,6 +40,7 @@ fn is_compact(share: &Share) -> bool
 }
 
 /// The shares behind the longest front of compact shares.
+#[tactic(auto, unfolding(crate::specs::Blobs::behind_compact))]
 pub(crate) fn behind_compact(shares: &[Share]) -> &[Share]
     ensures { result.now ≡ behind_compact shares.now }
 {

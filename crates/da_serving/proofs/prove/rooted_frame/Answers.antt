@@ -1,5 +1,0 @@
-use Rattle.da_serving.proofs.prove.rooted_frame.Goals as goal
-
--- each root proof can be written
-pub returns-clause-spelled : goal.returns-clause-spelled
-returns-clause-spelled c = c.wire_laws.ensures.rooted c.args.proof c.frame_law.ensures
