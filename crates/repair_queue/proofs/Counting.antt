@@ -1,5 +1,4 @@
 -- Numbers that pass a test, and counts of known cells, of samples and of decided rows and columns.
-pub mod AscentLemmas
 pub mod PassingLemmas
 pub mod CountLemmas
 pub mod CountedLemmas

@@ -9,6 +9,5 @@ pub mod DrainLemmas
 pub mod SessionLemmas
 pub mod FinishLemmas
 pub mod ViewLemmas
-pub mod NotFoundLemmas
 pub mod SharesLemmas
 pub mod CoverageLemmas

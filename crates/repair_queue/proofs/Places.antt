@@ -1,11 +1,9 @@
 -- Places of cells and of samples, and the samples that are kept at them.
 pub mod PlaceLemmas
-pub mod SlotLemmas
 pub mod ApartLemmas
 pub mod PutLemmas
 pub mod TakenLemmas
 pub mod TakeFromLemmas
-pub mod HalfLemmas
 pub mod PoolLemmas
 pub mod PutInLemmas
 pub mod TakeOutLemmas

@@ -32,12 +32,15 @@ pub record AreLeft (header : Roots) (ms : List Message) (cells : CellList) : Typ
   pub row_major : AreCells cells
   pub left : (cell : Cell) → Contains cells.list cell ↔ ((is_in_square header.k cell ≡ true) × (Half header ms cell → ⊥))
 
--- the cells of the square that aren't known, row-major
+-- a cell of the square isn't known
+abbrev pub IsNotFound : Board → Cell → Type 0
+IsNotFound b cell = (is_in_square b.grid.k cell ≡ true) × (is_found (given_of b) (decided_of b) cell ≡ true → ⊥)
+
+-- the cells that aren't, row-major
 pub record AreNotFound (b : Board) (cells : CellList) : Type 0 where
   pub width : cells.k ≡ b.grid.k
   pub row_major : AreCells cells
-  pub left : (cell : Cell) → Contains cells.list cell
-      ↔ ((is_in_square b.grid.k cell ≡ true) × (is_found (given_of b) (decided_of b) cell ≡ true → ⊥))
+  pub left : (cell : Cell) → Contains cells.list cell ↔ IsNotFound b cell
 
 -- the shares of the original cells, row-major
 pub record AreOriginals (b : Board) (shares : List Share) : Type 0 where

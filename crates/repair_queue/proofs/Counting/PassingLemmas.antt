@@ -4,9 +4,9 @@ use Rattle.std.specs.List.{Contains}
 use Rattle.std.proofs.lemmas.Bool.{cases_eq}
 use Rattle.repair_queue.specs.Closures.{AreChosen}
 use Rattle.namespace_id.proofs.MemberLemmas.{contains_head, contains_tail}
-use Rattle.repair_queue.proofs.Counting.AscentLemmas.{ascends_within, positions_ascend}
 pub use Rattle.repair_queue.specs.Counting.{one_if, count_from}
 use Rattle.leopard_code.proofs.MissingLemmas.{Rises}
+use Rattle.leopard_code.proofs.StandingLemmas.{positions_rise}
 
 -- ---- counts
 
@@ -43,10 +43,7 @@ counted f (suc n) first low (p ∷ ps) le up each =
 
 -- where k positions pass, that many of the 2k numbers do
 pub chosen_counted : (f : ℕ → Bool) (k : ℕ) (chosen : List ℕ) → AreChosen k chosen → ((p : ℕ) → Contains chosen p → f p ≡ true) → k ≤ count_from f 0 (2 * k)
-unfolding Rises
-chosen_counted f k [] are pass = let e : 0 ≡ k = are.count in omega arith
-chosen_counted f k (p ∷ ps) are pass =
-    let up : Rises 0 (0 + 2 * k) (p ∷ ps) =
-    ascends_within 0 p (2 * k) (0 + 2 * k) (p ∷ ps) (omega arith) (omega arith) (positions_ascend k p ps are.positions) in
-    let many : length (p ∷ ps) ≤ count_from f 0 (2 * k) = counted f (2 * k) 0 0 (p ∷ ps) (omega arith) up pass in
+chosen_counted f k chosen are pass =
+    let up : Rises 0 (0 + 2 * k) chosen = let e : 2 * k ≡ 0 + 2 * k = omega arith in subst (λ (n : ℕ). Rises 0 n chosen) e (positions_rise k chosen are.positions) in
+    let many : length chosen ≤ count_from f 0 (2 * k) = counted f (2 * k) 0 0 chosen (omega arith) up pass in
     omega (arith, are.count)

@@ -20,7 +20,8 @@ use Rattle.data_header.specs.Headers.{Roots, root_of}
 use Rattle.axis_roots.specs.declared.message.messages.Message.{Message}
 use Rattle.axis_roots.specs.declared.message.proved.Proved.{Proved}
 use Rattle.axis_roots.specs.Messages.{position, index}
-use Rattle.axis_roots.specs.Proved.{kept_message, IsUnder}
+use Rattle.axis_roots.specs.Openings.{IsProved}
+use Rattle.axis_roots.specs.Proved.{kept_message}
 use Rattle.axis_roots.specs.Lines.{blank, cell_on, line_strict_root}
 use Rattle.axis_roots.specs.Grids.{share_at}
 use Rattle.axis_roots.specs.Claims.{ClaimParts, positions_of, claim_with, ShowsBad, IsFraudProof}
@@ -39,7 +40,7 @@ use Rattle.repair_queue.specs.Boards.{Shared, is_lined, is_found, share_of_first
 use Rattle.repair_queue.specs.Tools.{AreGathered}
 use Rattle.repair_queue.specs.Judging.{IsTakenAt, AreFoundAt, AreShownBy}
 use Rattle.repair_queue.specs.Moves.{IsMessageAt}
-use Rattle.repair_queue.proofs.Places.HalfLemmas.{all_proved}
+use Rattle.repair_queue.proofs.Places.TakenLemmas.{under_proved}
 use Rattle.square_layout.specs.Blocks.{SquareShares}
 
 -- ---- positions
@@ -90,12 +91,12 @@ module _ (header : Roots) (axis : Axis) (i : ℕ) (line : List Share) where
       let here : (index axis (kept_message c).cell == i) ≡ true = grind (arith, nat_tests) in
       and_from (index axis (kept_message c).cell == i) (list_all (λ n. index axis n.cell == i) (map kept_message cells)) here (on_here places cells are.1)
 
-  -- all are under the header
-  under_here : (places : List ℕ) (cells : List Proved) → AreOfLine header axis i line places cells → AllByRecursion (IsUnder header) cells
+  -- all are proved under the header
+  under_here : (places : List ℕ) (cells : List Proved) → AreOfLine header axis i line places cells → AllByRecursion (IsProved header) (map kept_message cells)
   under_here [] [] are = tt
   under_here [] (c ∷ cells) are = elim are [ ]
   under_here (p ∷ places) [] are = elim are [ ]
-  under_here (p ∷ places) (c ∷ cells) are = (are.0.under, under_here places cells are.1)
+  under_here (p ∷ places) (c ∷ cells) are = (under_proved header c are.0.under, under_here places cells are.1)
 
   -- the line has their shares
   entries_here : (n : ℕ) (places : List ℕ) (cells : List Proved) → n ≡ length line → list_all (λ p. nat_lt p n) places ≡ true → AreOfLine header axis i line places cells
@@ -146,7 +147,7 @@ module _ (header : Roots) (axis : Axis) (i : ℕ) (line : List Share) where
       } in (
         bad,
         λ ms facts. record {
-          accepts = (plain_accepted header claim refl).0 (all_proved header cells (under_here places cells are), bad);
+          accepts = (plain_accepted header claim refl).0 (under_here places cells are, bad);
           facts = facts_here ms (2 * header.k) places cells refl both.0 facts are;
         },
       )

@@ -23,8 +23,8 @@ use Rattle.axis_roots.proofs.Grids.LineLemmas.{length-line_names}
 use Rattle.befp_maker.specs.Rooms.{RoomParts}
 use Rattle.repair_queue.specs.Slots.{Kept, IsApart, IsAlike}
 use Rattle.repair_queue.specs.Closures.{AreChosen}
-use Rattle.repair_queue.proofs.Counting.AscentLemmas.{ascends_within, positions_ascend}
 use Rattle.leopard_code.proofs.MissingLemmas.{Rises}
+use Rattle.leopard_code.proofs.StandingLemmas.{positions_rise}
 
 -- the sample along the column shows another share where that along the row doesn't
 pub other_col : (slot : Kept) (cell : Cell) (share : Share) (kept : Proved) → (axis : Axis) × IsApart (slot axis cell) share → IsAlike (slot Row cell) share
@@ -101,7 +101,7 @@ rise_last (p ∷ q ∷ ps) low high (suc j) up h =
 pub first_ones : (k : ℕ) (known : List ℕ) → AreChosen k known → get_or known (k - 1) 0 < k → (j : ℕ) → j < k → get_or known j 0 ≡ j
 first_ones k [] are last j h = absurd (let e : 0 ≡ k = are.count in omega arith)
 first_ones k (p ∷ ps) are last j h =
-    let up : Rises 0 (2 * k) (p ∷ ps) = ascends_within 0 p (2 * k) (2 * k) (p ∷ ps) (omega arith) (omega arith) (positions_ascend k p ps are.positions) in
+    let up : Rises 0 (2 * k) (p ∷ ps) = positions_rise k (p ∷ ps) are.positions in
     let count : length (p ∷ ps) ≡ k = are.count in
     let least : 0 + j ≤ get_or (p ∷ ps) j 0 = rise (p ∷ ps) 0 (2 * k) j up (omega arith) in
     let most : get_or (p ∷ ps) j 0 + (length (p ∷ ps) - 1 - j) ≤ get_or (p ∷ ps) (length (p ∷ ps) - 1) 0 = rise_last (p ∷ ps) 0 (2 * k) j up (omega arith) in

@@ -13,10 +13,9 @@ use Rattle.axis_roots.specs.Messages.{index, position}
 use Rattle.axis_roots.specs.Lines.{cell_on}
 use Rattle.axis_roots.specs.Grids.{share_at}
 use Rattle.axis_roots.proofs.Grids.AxisLemmas.{index-cell_on, position-cell_on}
-use Rattle.axis_roots.proofs.Grids.NumberLemmas.{inside}
+use Rattle.axis_roots.proofs.Grids.NumberLemmas.{inside, number-lt}
 use Rattle.axis_roots.proofs.Grids.WrittenLemmas.{on_axis_in_square}
 use Rattle.repair_queue.specs.Keeping.{AreWrittenLeaves}
-use Rattle.repair_queue.proofs.Places.SlotLemmas.{slot_number-lt}
 
 -- the number of a cell
 abbrev number_of : ℕ → Cell → ℕ
@@ -37,7 +36,8 @@ pub one_written : (k : ℕ) (old new : List Digest) (axis : Axis) (i : ℕ) (dig
     → AreWrittenSo k old new axis i digests pos → AreWrittenSo k old (set new at (get_or digests pos d)) axis i digests (pos + 1)
 one_written k old new axis i digests pos at cell d hi hp long count is number so =
     let place : at ≡ number_of k (cell_on axis i pos) = number ∙ ap (number_of k) is in
-    let below : at < length new = omega (arith, long, place, slot_number-lt k (cell_on axis i pos) (on_axis_in_square k axis i pos hi hp)) in
+    let there = inside k (cell_on axis i pos) (on_axis_in_square k axis i pos hi hp) in
+    let below : at < length new = omega (arith, long, place, number-lt (2 * k) (cell_on axis i pos) there.0 there.1) in
     record {
       here = λ p h. elim (cases_eq p pos) [
         | inl e ↦

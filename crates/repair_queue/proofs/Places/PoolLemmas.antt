@@ -6,9 +6,8 @@ use Rattle.namespace_id.specs.declared.cells.Cell.{Cell}
 use Rattle.namespace_id.specs.declared.cells.Axis.{Axis}
 use Rattle.namespace_id.specs.declared.cells.Axis.TheVariants.{Row, Col}
 use Rattle.namespace_id.specs.Cells.{is_in_square}
-use Rattle.axis_roots.proofs.Grids.NumberLemmas.{inside, cell_of, cell_of-number}
+use Rattle.axis_roots.proofs.Grids.NumberLemmas.{inside, number-lt, cell_of, cell_of-number}
 use Rattle.repair_queue.specs.Places.{place_in, places_in, IsPlaced}
-use Rattle.repair_queue.proofs.Places.SlotLemmas.{slot_number-lt}
 
 -- the place of a cell of the square is read at its number
 pub place_within : (k : ℕ) (places : List ℕ) (cell : Cell) → is_in_square k cell ≡ true → place_in k places cell ≡ get_or places (cell.row * (2 * k) + cell.col) 0
@@ -24,7 +23,7 @@ place_outside k places cell out = ap (λ (b : Bool). cond b (get_or places (cell
 pub place_read : (k : ℕ) (places : List ℕ) (cell : Cell) (at value : ℕ) → is_in_square k cell ≡ true → length places ≡ 2 * k * (2 * k)
     → at ≡ cell.row * (2 * k) + cell.col → value ≡ get_or places at value → value ≡ place_in k places cell
 place_read k places cell at value within long number read =
-    let below : at < 2 * k * (2 * k) = omega (arith, slot_number-lt k cell within) in
+    let below : at < 2 * k * (2 * k) = omega (arith, number-lt (2 * k) cell (inside k cell within).0 (inside k cell within).1) in
     get_or_read_under places at (2 * k * (2 * k)) value 0 read below (sym long)
     ∙ ap (λ (i : ℕ). get_or places i 0) number ∙ sym (place_within k places cell within)
 
@@ -58,7 +57,7 @@ place_set : (k : ℕ) (places : List ℕ) (cell : Cell) (at n : ℕ) → is_in_s
     → at ≡ cell.row * (2 * k) + cell.col → place_in k (set places at n) cell ≡ n
 place_set k places cell at n within long number =
     place_within k (set places at n) cell within ∙ ap (λ (i : ℕ). get_or (set places at n) i 0) (sym number)
-    ∙ get_or-set_same places at n 0 (omega (arith, slot_number-lt k cell within))
+    ∙ get_or-set_same places at n 0 (omega (arith, number-lt (2 * k) cell (inside k cell within).0 (inside k cell within).1))
 
 -- and those of all other cells stay
 place_other : (k : ℕ) (places : List ℕ) (cell d : Cell) (at n : ℕ) → is_in_square k cell ≡ true

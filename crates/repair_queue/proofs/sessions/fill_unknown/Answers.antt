@@ -1,9 +1,9 @@
-use Rattle.std.proofs.Common.{◌≡◌, ◌∙◌, ℕ, ◌+◌, ◌*◌, ◌≤◌, Bool, true, true≢false, sym, subst, arith}
+use Rattle.std.proofs.Common.{◌≡◌, ◌∙◌, ℕ, ◌+◌, ◌*◌, ◌≤◌, true, true≢false, sym, subst, arith}
 use Rattle.namespace_id.specs.declared.cells.Cell.{Cell}
 use Rattle.namespace_id.specs.Cells.{is_in_square}
 use Rattle.namespace_id.proofs.NumberLemmas.{in_square}
-use Rattle.repair_queue.specs.Boards.{given_of, decided_of, is_found}
-use Rattle.repair_queue.proofs.Feeding.NotFoundLemmas.{IsFilling, none_left, all_left, comes_after, left_same, left_more}
+use Rattle.namespace_id.proofs.BelowLemmas.{IsFilling, none_below, below_same, below_more, comes_after, all_below}
+use Rattle.repair_queue.specs.Sessions.{IsNotFound}
 use Rattle.repair_queue.proofs.sessions.fill_unknown.Goals.{then-not-is_known, else-not-is_known}
 use Rattle.repair_queue.proofs.sessions.fill_unknown.Goals as goal
 
@@ -11,7 +11,7 @@ use Rattle.repair_queue.proofs.sessions.fill_unknown.Goals as goal
 pub loop-number-init : goal.loop-number-init
 loop-number-init c = record {
   width = c.clear.ensures.k ∙ c.requires.room;
-  left = none_left c.args.board.now.grid.k (is_found (given_of c.args.board.now) (decided_of c.args.board.now)) c.clear.new.self.list c.clear.ensures.list;
+  below = none_below c.args.board.now.grid.k (IsNotFound c.args.board.now) c.clear.new.self.list c.clear.ensures.list;
 }
 
 -- a cell is in the square
@@ -24,32 +24,32 @@ add-requires-clause-cell c =
 pub add-requires-clause-after : goal.add-requires-clause-after
 add-requires-clause-after c =
     let cell : Cell = c.cell_numbered-cell.result in
-    comes_after c.args.board.now.grid.k (is_found (given_of c.args.board.now) (decided_of c.args.board.now)) c.loop-number.number c.loop-number.room.list cell
+    comes_after c.args.board.now.grid.k (IsNotFound c.args.board.now) c.loop-number.number c.loop-number.room.list cell (λ d is. is.0)
     (in_square c.args.board.now.grid.k cell (omega (arith, c.cell_numbered-cell.ensures.row, c.width-k.ensures.value))
     (omega (arith, c.cell_numbered-cell.ensures.col, c.width-k.ensures.value)))
     (subst (λ (w : ℕ). cell.row * (2 * w) + cell.col ≡ c.loop-number.number) c.width-k.ensures.value c.cell_numbered-cell.ensures.number)
-    c.loop-number.invariant.left
+    c.loop-number.invariant.below
 
 -- it is added where it isn't known
 pub loop-number-preserved : goal.loop-number-preserved
 loop-number-preserved c =
     let cell : Cell = c.cell_numbered-cell.result in
     let k : ℕ = c.args.board.now.grid.k in
-    let known : Cell → Bool = is_found (given_of c.args.board.now) (decided_of c.args.board.now) in
+    let Is : Cell → Type 0 = IsNotFound c.args.board.now in
     let within : is_in_square k cell ≡ true =
     in_square k cell (omega (arith, c.cell_numbered-cell.ensures.row, c.width-k.ensures.value)) (omega (arith, c.cell_numbered-cell.ensures.col, c.width-k.ensures.value)) in
     let number : cell.row * (2 * k) + cell.col ≡ c.loop-number.number =
     subst (λ (w : ℕ). cell.row * (2 * w) + cell.col ≡ c.loop-number.number) c.width-k.ensures.value c.cell_numbered-cell.ensures.number in
     elim c.if-not-is_known.branch [
-      | then-not-is_known w ↦ subst (IsFilling k known (c.loop-number.number + 1)) (sym (w.room-is ∙ w.add.ensures.value)) (record {
+      | then-not-is_known w ↦ subst (IsFilling k Is (c.loop-number.number + 1)) (sym (w.room-is ∙ w.add.ensures.value)) (record {
         width = c.loop-number.invariant.width;
-        left = left_more k known c.loop-number.number c.loop-number.room.list cell within number c.loop-number.invariant.left
-            (λ is. true≢false (sym is ∙ sym c.is_known.ensures ∙ w.if-not-is_known.true));
+        below = below_more k Is c.loop-number.number c.loop-number.room.list cell (λ d is. is.0) within number c.loop-number.invariant.below
+            (within, λ is. true≢false (sym is ∙ sym c.is_known.ensures ∙ w.if-not-is_known.true));
       })
-      | else-not-is_known w ↦ subst (IsFilling k known (c.loop-number.number + 1)) (sym w.room-is) (record {
+      | else-not-is_known w ↦ subst (IsFilling k Is (c.loop-number.number + 1)) (sym w.room-is) (record {
         width = c.loop-number.invariant.width;
-        left = left_same k known c.loop-number.number c.loop-number.room.list cell within number c.loop-number.invariant.left
-            (sym c.is_known.ensures ∙ w.if-not-is_known.false);
+        below = below_same k Is c.loop-number.number c.loop-number.room.list cell (λ d is. is.0) within number c.loop-number.invariant.below
+            (λ is. is.1 (sym c.is_known.ensures ∙ w.if-not-is_known.false));
       })
     ]
 
@@ -58,7 +58,7 @@ pub returns : goal.returns
 returns c = record {
   width = c.loop-number.invariant.width;
   row_major = c.cells-cells.ensures.cells;
-  left = all_left c.args.board.now.grid.k (is_found (given_of c.args.board.now) (decided_of c.args.board.now)) c.loop-number.number c.loop-number.room.list
+  left = all_below c.args.board.now.grid.k (IsNotFound c.args.board.now) c.loop-number.number c.loop-number.room.list (λ d is. is.0)
       (subst (λ (w : ℕ). 2 * w * (2 * w) ≤ c.loop-number.number) c.width-k.ensures.value (omega (arith, c.loop-number-test.false)))
-      c.loop-number.invariant.left;
+      c.loop-number.invariant.below;
 }
