@@ -1,5 +1,5 @@
 -- What is kept and the samples that it stands for: at the start, and with one sample more.
-use Rattle.std.proofs.Common.{◌≡◌, ◌∙◌, ℕ, List, [], ◌∷◌, ◌++◌, true, false, refl, sym, ap, subst, inl, inr}
+use Rattle.std.proofs.Common.{◌≡◌, ◌∙◌, ◌⊎◌, ℕ, List, [], ◌∷◌, ◌++◌, true, false, refl, sym, ap, subst, inl, inr}
 use Rattle.std.specs.Prelude.{Some, None}
 use Rattle.std.specs.List.{Contains}
 use Rattle.std.proofs.lemmas.Bool.{true≢false}
@@ -42,36 +42,41 @@ nothing_stands header slot flag shares empty off = record {
   shown = λ m at proved low. absurd (contains_none m at);
 }
 
+-- with one sample more it stands for what it stood for and this one, where each sample that is kept is this one or was kept, shares
+-- that were shown are shown still, and this one's is that of its decided row or column, or is shown
+stands_more : (header : Roots) (ms : List Message) (old new : Kept) (flag : Flags) (shares : Shared) (m : Message)
+    → ((axis : Axis) (cell : Cell) (kept : Proved) → new axis cell ≡ Some kept → (m ≡ kept_message kept) ⊎ (old axis cell ≡ Some kept))
+    → ((axis : Axis) (cell : Cell) (share : Share) → Shows (old axis cell) share → Shows (new axis cell) share)
+    → (is_lined flag m.cell ≡ true → shares m.cell ≡ m.share) → (is_lined flag m.cell ≡ false → (axis : Axis) × Shows (new axis m.cell) m.share)
+    → Stands header ms old flag shares → Stands header (ms ++ m ∷ []) new flag shares
+stands_more header ms old new flag shares m which still on off stand = record {
+  fed = λ axis cell a low e. elim (which axis cell a e) [
+    | inl is ↦ subst (Contains (ms ++ m ∷ [])) is (Contains-push ms m)
+    | inr before ↦ Contains-append_left ms (m ∷ []) (kept_message a) (stand.fed axis cell a low before)
+  ];
+  facts = λ axis i pos hi hp set. fact_more header ms m (cell_on axis i pos) (shares (cell_on axis i pos)) (stand.facts axis i pos hi hp set);
+  lined = λ n at proved set. elim (Contains-push_cases ms m n at) [
+    | inl before ↦ stand.lined n before proved set
+    | inr e ↦ subst (λ (x : Message). is_lined flag x.cell ≡ true → shares x.cell ≡ x.share) e on set
+  ];
+  shown = λ n at proved low. elim (Contains-push_cases ms m n at) [
+    | inl before ↦ let there = stand.shown n before proved low in (there.0, still there.0 n.cell n.share there.1)
+    | inr e ↦ subst (λ (x : Message). is_lined flag x.cell ≡ false → (axis : Axis) × Shows (new axis x.cell) x.share) e off low
+  ];
+}
+
 module _ (header : Roots) (ms : List Message) (slot : Kept) (flag : Flags) (shares : Shared) (m : Message) (stand : Stands header ms slot flag shares) where
   -- a sample on a decided row or column that has its share
   pub stands_lined : is_lined flag m.cell ≡ true → shares m.cell ≡ m.share → Stands header (ms ++ m ∷ []) slot flag shares
-  stands_lined on same = record {
-    fed = λ axis cell kept low e. Contains-append_left ms (m ∷ []) (kept_message kept) (stand.fed axis cell kept low e);
-    facts = λ axis i pos hi hp set. fact_more header ms m (cell_on axis i pos) (shares (cell_on axis i pos)) (stand.facts axis i pos hi hp set);
-    lined = λ n at proved set. elim (Contains-push_cases ms m n at) [
-      | inl before ↦ stand.lined n before proved set
-      | inr e ↦ subst (λ (x : Message). shares x.cell ≡ x.share) e same
-    ];
-    shown = λ n at proved low. elim (Contains-push_cases ms m n at) [
-      | inl before ↦ stand.shown n before proved low
-      | inr e ↦ absurd (true≢false (sym on ∙ ap (λ (x : Message). is_lined flag x.cell) e ∙ low))
-    ];
-  }
+  stands_lined on same =
+      stands_more header ms slot slot flag shares m (λ axis cell kept e. inr e) (λ axis cell share shows. shows) (λ set. same)
+      (λ low. absurd (true≢false (sym on ∙ low))) stand
 
   -- a sample on none whose share is shown already
   pub stands_shown : is_lined flag m.cell ≡ false → (axis : Axis) → Shows (slot axis m.cell) m.share → Stands header (ms ++ m ∷ []) slot flag shares
-  stands_shown off own shows = record {
-    fed = λ axis cell kept low e. Contains-append_left ms (m ∷ []) (kept_message kept) (stand.fed axis cell kept low e);
-    facts = λ axis i pos hi hp set. fact_more header ms m (cell_on axis i pos) (shares (cell_on axis i pos)) (stand.facts axis i pos hi hp set);
-    lined = λ n at proved set. elim (Contains-push_cases ms m n at) [
-      | inl before ↦ stand.lined n before proved set
-      | inr e ↦ absurd (true≢false (sym set ∙ ap (λ (x : Message). is_lined flag x.cell) (sym e) ∙ off))
-    ];
-    shown = λ n at proved low. elim (Contains-push_cases ms m n at) [
-      | inl before ↦ stand.shown n before proved low
-      | inr e ↦ subst (λ (x : Message). (axis : Axis) × Shows (slot axis x.cell) x.share) e (own, shows)
-    ];
-  }
+  stands_shown off own shows =
+      stands_more header ms slot slot flag shares m (λ axis cell kept e. inr e) (λ axis cell share there. there)
+      (λ set. absurd (true≢false (sym set ∙ off))) (λ low. (own, shows)) stand
 
 module _ (header : Roots) (old new : Kept) (flag : Flags) (shares : Shared) (kept : Proved) (under : IsUnder header kept)
     (empty : old (kept_message kept).axis (kept_message kept).cell ≡ None)
@@ -92,24 +97,8 @@ module _ (header : Roots) (old new : Kept) (flag : Flags) (shares : Shared) (kep
   -- on no decided row or column it is kept
   pub put_stands : is_lined flag (kept_message kept).cell ≡ false → (ms : List Message) → Stands header ms old flag shares
       → Stands header (ms ++ kept_message kept ∷ []) new flag shares
-  put_stands off ms stand = record {
-    fed = λ axis cell a low e. elim (put_cases old new kept put axis cell a e) [
-      | inl (ea, ec, is) ↦
-          subst (λ (x : Proved). Contains (ms ++ kept_message kept ∷ []) (kept_message x)) is (Contains-push ms (kept_message kept))
-      | inr before ↦ Contains-append_left ms (kept_message kept ∷ []) (kept_message a) (stand.fed axis cell a low before)
-    ];
-    facts = λ axis i pos hi hp set.
-        fact_more header ms (kept_message kept) (cell_on axis i pos) (shares (cell_on axis i pos)) (stand.facts axis i pos hi hp set);
-    lined = λ n at proved set. elim (Contains-push_cases ms (kept_message kept) n at) [
-      | inl before ↦ stand.lined n before proved set
-      | inr e ↦ absurd (true≢false (sym set ∙ ap (λ (x : Message). is_lined flag x.cell) (sym e) ∙ off))
-    ];
-    shown = λ n at proved low. elim (Contains-push_cases ms (kept_message kept) n at) [
-      | inl before ↦
-          let there = stand.shown n before proved low in
-          (there.0, put_still old new kept put empty there.0 n.cell n.share there.1)
-      | inr e ↦
-          subst (λ (x : Message). (axis : Axis) × Shows (new axis x.cell) x.share) e
-          ((kept_message kept).axis, record { kept = kept; held = put.here; share_is = refl })
-    ];
-  }
+  put_stands off ms stand =
+      stands_more header ms old new flag shares (kept_message kept)
+      (λ axis cell a e. elim (put_cases old new kept put axis cell a e) [ inl (ea, ec, is) ↦ inl (ap kept_message is) | inr before ↦ inr before ])
+      (put_still old new kept put empty) (λ set. absurd (true≢false (sym set ∙ off)))
+      (λ low. ((kept_message kept).axis, record { kept = kept; held = put.here; share_is = refl })) stand
