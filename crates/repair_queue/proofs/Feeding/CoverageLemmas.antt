@@ -1,7 +1,9 @@
 -- Sessions that have come to the whole square.
-use Rattle.std.proofs.Common.{◌≡◌, ◌∙◌, ℕ, ◌+◌, ◌*◌, ◌<◌, List, Bool, true, false, sym, ap, subst, arith, inl, inr}
+use Rattle.std.proofs.Common.{◌≡◌, ◌∙◌, ℕ, ◌*◌, ◌<◌, List, length, Bool, true, false, sym, ap, arith}
 use Rattle.std.specs.Prelude.{◌↔◌, ◌||◌, Option, Some, None, is_some}
-use Rattle.std.proofs.lemmas.Bool.{cases_Bool, cases_lt, true≢false}
+use Rattle.std.specs.List.{list_all}
+use Rattle.std.proofs.lemmas.List.Elements.{All-from_get_or}
+use Rattle.std.proofs.lemmas.List.Sums.{AllPass-from_list_all, list_all-from_AllPass}
 use Rattle.namespace_id.specs.declared.cells.Cell.{Cell}
 use Rattle.namespace_id.specs.declared.cells.Axis.TheVariants.{Row, Col}
 use Rattle.namespace_id.specs.Cells.{is_in_square}
@@ -20,13 +22,6 @@ use Rattle.repair_queue.specs.Views.{end_of}
 use Rattle.repair_queue.specs.Sessions.{state_by, session_state}
 use Rattle.repair_queue.proofs.Facts.SessionLawLemmas.{open_stands_open}
 use Rattle.repair_queue.proofs.Facts.VerdictLemmas.{all_decided}
-
--- one number more passes
-pub rows_more : (flag : ℕ → Bool) (n : ℕ) → ((i : ℕ) → i < n → flag i ≡ true) → flag n ≡ true → (i : ℕ) → i < n + 1 → flag i ≡ true
-rows_more flag n before here i h = elim (cases_lt i n) [
-  | inl lower ↦ before i lower
-  | inr other ↦ let same : i ≡ n = omega arith in subst (λ (j : ℕ). flag j ≡ true) (sym same) here
-]
 
 -- the marks of an open board are for the header's width
 pub open_marks : (header : Roots) (b : Board) (tools : Tools) (end : Option Ended) → IsOpenBoard header b tools end → state_by (end_of end) ≡ state.Open
@@ -48,15 +43,13 @@ module _ (s : SessionParts) (ms : List Message) (is : session_state s ≡ state.
   all_rows all i h = ((open_stands_open s ms is stand).decided Row i h).1 (all_decided s.header ms all Row i h)
 
 -- a test that tells whether all rows are decided tells whether all cells are recoverable
-pub rows_tell : (s : SessionParts) (k : ℕ) (test : Bool) → k ≡ s.header.k → (test ≡ true → (i : ℕ) → i < 2 * k → marks_of s Row i ≡ true)
-    → (test ≡ false → (i : ℕ) × (i < 2 * k) × (marks_of s Row i ≡ false)) → session_state s ≡ state.Open
-    → (ms : List Message) → SessionStands s ms → (test ≡ true) ↔ ((cell : Cell) → is_in_square s.header.k cell ≡ true → Half s.header ms cell)
-rows_tell s k test width all some is ms stand = (
-  (λ told. rows_all s ms is stand (λ i h. all told i (subst (λ (w : ℕ). i < 2 * w) (sym width) h))),
-  λ halves. elim (cases_Bool test) [
-    | inl told ↦ told
-    | inr other ↦
-        let left = some other in
-        absurd (true≢false (sym (all_rows s ms is stand halves left.0 (subst (λ (w : ℕ). left.0 < 2 * w) width left.1)) ∙ left.2))
-  ],
+pub rows_tell : (s : SessionParts) (k : ℕ) (test : Bool) → k ≡ s.header.k → length s.row_marks ≡ 2 * k → test ≡ list_all (λ is_set. is_set) s.row_marks
+    → session_state s ≡ state.Open → (ms : List Message) → SessionStands s ms
+    → (test ≡ true) ↔ ((cell : Cell) → is_in_square s.header.k cell ≡ true → Half s.header ms cell)
+rows_tell s k test width long tells is ms stand = (
+  λ told. rows_all s ms is stand
+      (λ i h. AllPass-from_list_all (λ is_set. is_set) s.row_marks (sym tells ∙ told) i false (omega (arith, h, width, long))),
+  λ halves.
+      tells ∙ list_all-from_AllPass (λ is_set. is_set) s.row_marks
+      (All-from_get_or (λ is_set. is_set ≡ true) s.row_marks false (λ i h. all_rows s ms is stand halves i (omega (arith, h, width, long)))),
 )

@@ -21,4 +21,4 @@ returns c =
     c.self.view_is
     (rows_tell (parts_by c.self.inside.header c.self.inside.board c.self.inside.ended) c.self.inside.board.marks.k c.are_rows_marked.result
     (open_marks c.self.inside.header c.self.inside.board c.self.inside.tools c.self.inside.ended c.self.invariant.open_board is)
-    c.are_rows_marked.ensures.all c.are_rows_marked.ensures.some is)
+    c.self.inside.board.marks.row_count c.are_rows_marked.ensures is)
