@@ -2,8 +2,6 @@
 use Rattle.std.specs.Prelude.{◌≡◌, ℕ, ◌*◌, ◌<◌, ◌≤◌, List, length, get_or, true, Option, Some, Vec, vec_capacity}
 use Rattle.std.specs.declared.alloc.Global.{Global}
 use Rattle.namespace_id.specs.declared.cells.Axis.{Axis}
-use Rattle.namespace_id.specs.declared.digests.Digest.{Digest}
-use Rattle.namespace_id.specs.declared.namespaces.Namespace.{Namespace}
 use Rattle.namespace_id.specs.declared.shares.Share.{Share}
 use Rattle.axis_roots.specs.declared.message.proved.Proved.{Proved}
 use Rattle.axis_roots.specs.Lines.{cell_on, blank}
@@ -15,24 +13,6 @@ use Rattle.repair_queue.specs.Boards.{Shared, is_found, found_share}
 -- a list for k samples that was not handed out
 abbrev pub HasSpare : ℕ → Option (Vec Proved Global) → Type 0
 HasSpare k spare = (cells : Vec Proved Global) × (spare ≡ Some cells) × IsSpare k cells
-
--- lists with capacity for the positions of k cells, their shares, and k samples
-abbrev pub AreLists : ℕ → Vec ℕ Global × Vec Share Global × Vec Proved Global → Type 0
-AreLists k lists = record {
-  known : k ≤ vec_capacity lists.0;
-  given : k ≤ vec_capacity lists.1;
-  spare : IsSpare k lists.2;
-}
-
--- the namespaces, twice the digests, and twice the shares of a line of 2k cells
-abbrev pub IsLine : ℕ → Vec Namespace Global × Vec Digest Global × Vec Digest Global × Vec Share Global × Vec Share Global → Type 0
-IsLine k made = record {
-  names : length made.0.items ≡ 2 * k;
-  digests : length made.1.items ≡ 2 * k;
-  folded : length made.2.items ≡ 2 * k;
-  line : length made.3.items ≡ 2 * k;
-  across : length made.4.items ≡ 2 * k;
-}
 
 -- buffers for the steps over a square of width k
 pub record AreTools (k : ℕ) (t : Tools) : Type 0 where

@@ -32,16 +32,6 @@ pub(crate) struct Board {
     pub(crate) leaves: Vec<Digest>,
 }
 
-/// A grid of zeros.
-fn blank_grid(alloc: Global, k: u16) -> Result<Grid, NoMemory>
-    requires width { IsTrue (is_width k) }
-    ensures width { IfOk result (λ grid. grid.k ≡ k) }
-{
-    let side = 2 * k as usize;
-    let shares = vec![in alloc; Share([0; SHARE_SIZE]); side * side]?;
-    Ok(Grid::of(k, shares))
-}
-
 impl Board {
     /// A board of a square of width `k`, of which nothing is known, with capacity for so many places of
     /// samples, the first of which stays empty.
@@ -57,8 +47,8 @@ impl Board {
         let pool = Pool::new(alloc, k, places)?;
         let marks = Marks::new(alloc, k)?;
         let counts = Counts::new(alloc, k)?;
-        let grid = blank_grid(alloc, k)?;
         let side = 2 * k as usize;
+        let grid = Grid::of(k, vec![in alloc; Share([0; SHARE_SIZE]); side * side]?);
         let leaves = vec![in alloc; BLANK_DIGEST; side * side]?;
         Ok(Board {
             pool,

@@ -107,14 +107,16 @@ fn clear_cell(pool: &mut Pool, cell: Cell)
 }
 
 /// Takes the samples of the cells of a row or a column out.
-fn clear_line(pool: &mut Pool, axis: Axis, index: u16)
+fn clear_line(pool: &mut Pool, k: u16, axis: Axis, index: u16)
+    requires width { IsTrue (is_width k) }
+    requires k { k ≡ pool.old.places.k }
     requires index { index < 2 * pool.old.places.k }
     ensures width { pool.new.places.k ≡ pool.old.places.k }
     ensures cleared { IsClearedTo (slot_in pool.old) (slot_in pool.new) axis index
         (2 * pool.old.places.k) }
     ensures room { StaysRoomy pool.old pool.new }
 {
-    for pos in 0..2 * pool.width() {
+    for pos in 0..2 * k {
         clear_cell(pool, cell_on(axis, index, pos));
     }
 }
@@ -170,5 +172,5 @@ pub(crate) fn keep_line(
     ensures room { StaysRoomy board.old.pool board.new.pool }
 {
     keep_shares(board, header, axis, index, line, digests);
-    clear_line(&mut board.pool, axis, index);
+    clear_line(&mut board.pool, header.k, axis, index);
 }

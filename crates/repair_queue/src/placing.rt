@@ -52,14 +52,6 @@ impl Places {
         Ok(Places { k, rows, cols })
     }
 
-    /// The width of the square.
-    pub(crate) fn width(&self) -> u16
-        ensures value { result ≡ self.now.k }
-        ensures width { is_width result ≡ true }
-    {
-        self.k
-    }
-
     /// The place of a cell along an axis.
     pub(crate) fn at(&self, axis: Axis, cell: Cell) -> usize
         requires cell { is_in_square self.now.k cell ≡ true }

@@ -94,14 +94,6 @@ impl Pool {
         })
     }
 
-    /// The width of the square.
-    pub(crate) fn width(&self) -> u16
-        ensures value { result ≡ self.now.places.k }
-        ensures width { is_width result ≡ true }
-    {
-        self.places.width()
-    }
-
     /// With capacity for as many places as there are cells there is a place for one sample more. It changes nothing.
     pub(crate) fn place_law(&self)
         ensures { IsRoomy self.now → HasPlace self.now }

@@ -2,7 +2,7 @@
 
 ghost use Rattle.std.specs.Prelude.{◌≡◌, IsTrue, IfOk};
 ghost use Rattle.namespace_id.specs.Cells.{is_width};
-ghost use Rattle.repair_queue.specs.Tools.{AreLists, IsLine, AreTools};
+ghost use Rattle.repair_queue.specs.Tools.{AreTools};
 
 use axis_roots::Proved;
 use befp_maker::AxisRoom;
@@ -31,52 +31,23 @@ pub(crate) struct Tools {
     pub(crate) spare: Option<Vec<Proved>>,
 }
 
-/// Lists with capacity for the positions of k cells, their shares, and k samples.
-fn lists(alloc: Global, k: u16) -> Result<(Vec<u16>, Vec<Share>, Vec<Proved>), NoMemory>
-    ensures { IfOk result (AreLists k) }
-{
-    let known = Vec::with_capacity(alloc, k as usize)?;
-    let given = Vec::with_capacity(alloc, k as usize)?;
-    let spare = Vec::with_capacity(alloc, k as usize)?;
-    Ok((known, given, spare))
-}
-
-/// The namespaces, twice the digests, and twice the shares of a line of 2k cells.
-fn line(
-    alloc: Global,
-    k: u16,
-) -> Result<
-    (
-        Vec<Namespace>,
-        Vec<Digest>,
-        Vec<Digest>,
-        Vec<Share>,
-        Vec<Share>,
-    ),
-    NoMemory,
->
-    requires width { IsTrue (is_width k) }
-    ensures { IfOk result (IsLine k) }
-{
-    let side = 2 * k as usize;
-    let names = vec![in alloc; PARITY; side]?;
-    let digests = vec![in alloc; BLANK_DIGEST; side]?;
-    let folded = vec![in alloc; BLANK_DIGEST; side]?;
-    let line = vec![in alloc; Share([0; SHARE_SIZE]); side]?;
-    let across = vec![in alloc; Share([0; SHARE_SIZE]); side]?;
-    Ok((names, digests, folded, line, across))
-}
-
 impl Tools {
     /// Tools for squares of width `k`.
     pub(crate) fn new(alloc: Global, k: u16) -> Result<Tools, NoMemory>
         requires width { IsTrue (is_width k) }
         ensures { IfOk result (AreTools k) }
     {
+        let side = 2 * k as usize;
         let room = AxisRoom::new(alloc, k)?;
         let code = Room::new(alloc, k)?;
-        let (known, given, spare) = lists(alloc, k)?;
-        let (names, digests, folded, line, across) = line(alloc, k)?;
+        let line = vec![in alloc; Share([0; SHARE_SIZE]); side]?;
+        let known = Vec::with_capacity(alloc, k as usize)?;
+        let given = Vec::with_capacity(alloc, k as usize)?;
+        let names = vec![in alloc; PARITY; side]?;
+        let digests = vec![in alloc; BLANK_DIGEST; side]?;
+        let folded = vec![in alloc; BLANK_DIGEST; side]?;
+        let across = vec![in alloc; Share([0; SHARE_SIZE]); side]?;
+        let spare = Vec::with_capacity(alloc, k as usize)?;
         Ok(Tools {
             room,
             code,

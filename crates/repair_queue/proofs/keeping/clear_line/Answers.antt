@@ -23,5 +23,5 @@ loop-pos-preserved c = record {
 -- at the end all are
 pub returns-clause-cleared : goal.returns-clause-cleared
 returns-clause-cleared c =
-    cleared_to (slot_in c.args.pool.now) (slot_in c.loop-pos.pool) c.args.axis c.args.index c.loop-pos.pos (2 * c.args.pool.now.places.k) (omega (arith, c.width-pos-end.ensures.value))
+    cleared_to (slot_in c.args.pool.now) (slot_in c.loop-pos.pool) c.args.axis c.args.index c.loop-pos.pos (2 * c.args.pool.now.places.k) (omega (arith, c.requires.k))
     c.loop-pos.invariant.cleared
