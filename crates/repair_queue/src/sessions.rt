@@ -52,15 +52,6 @@ pub(crate) fn width(header: &Header) -> u16
     header.k
 }
 
-/// How many cells a square of width `k` has.
-fn cells_of(k: u16) -> usize
-    requires width { IsTrue (is_width k) }
-    ensures { result ≡ 2 * k * (2 * k) }
-{
-    let side = 2 * k as usize;
-    side * side
-}
-
 /// Fills a room with the cells that aren't known, row-major.
 fn fill_unknown(board: &Board, room: &mut CellRoom)
     requires parts { AreParts board.now }
@@ -149,7 +140,8 @@ impl Session {
         let room = CellRoom::new(alloc, k)?;
         let header = header.copy(alloc)?;
         let trees = PartialTrees::new(alloc, &header)?;
-        let board = Board::new(alloc, k, cells_of(k))?;
+        let side = 2 * k as usize;
+        let board = Board::new(alloc, k, side * side)?;
         let tools = Tools::new(alloc, k)?;
         Ok(Session {
             header,
@@ -187,10 +179,11 @@ impl Session {
         ensures stands { (ms : List Message) → SessionStands self.old ms →
             SessionStands self.new (ms ++ kept_message message ∷ []) }
     {
-        if self.ended.is_none() {
-            self.board.pool.place_law();
-            self.ended = step(&mut self.board, &mut self.tools, &self.header, message);
+        if self.ended.is_some() {
+            return self.state();
         }
+        self.board.pool.place_law();
+        self.ended = step(&mut self.board, &mut self.tools, &self.header, message);
         self.state()
     }
 

@@ -20,12 +20,9 @@ use Rattle.repair_queue.specs.declared.tools.Tools.{Tools}
 use Rattle.repair_queue.specs.declared.ending.Ended.{Ended}
 use Rattle.repair_queue.specs.declared.ending.Ended.TheVariants as ended
 use Rattle.repair_queue.specs.declared.fed.SessionState.TheVariants as state
-use Rattle.repair_queue.specs.declared.verdict.Verdict.{Verdict}
 use Rattle.repair_queue.specs.Closures.{Half, Fact}
 use Rattle.repair_queue.specs.Settled.{IsSettled}
-use Rattle.repair_queue.specs.Verdicts.{VerdictParts, IsWhole, IsMissing, IsVerdict}
-use Rattle.repair_queue.specs.Repairs.{IsEnd}
-use Rattle.repair_queue.specs.Answers.{verdict_parts, EndsAs}
+use Rattle.repair_queue.specs.Verdicts.{IsWhole, IsMissing}
 use Rattle.repair_queue.specs.Boards.{given_of, decided_of, shared_of, is_found, IsGood, AreAtRest, HoldsFor}
 use Rattle.repair_queue.specs.OpenBoards.{IsOpenBoard, KeepsFor}
 use Rattle.repair_queue.specs.Views.{end_of}
@@ -127,9 +124,3 @@ pub held_left : (header : Roots) (b : Board) (tools : Tools) (end : Option Ended
 held_left header b tools None held is cells are ms stand = left_over header b held.0 held.2 ms stand cells are
 held_left header b tools (Some (ended.Fraud proof)) held is cells are ms stand = absurd cc
 held_left header b tools (Some (ended.Clash clash)) held is cells are ms stand = absurd cc
-
--- what ended a session is an answer
-pub ended_verdict : (header : Roots) (ms : List Message) (end : Ended) (verdict : Verdict) → IsEnd header ms end → EndsAs end verdict
-    → IsVerdict header ms (verdict_parts verdict)
-ended_verdict header ms (ended.Fraud proof) verdict is as_it = subst (λ (v : VerdictParts). IsVerdict header ms v) (sym as_it) is
-ended_verdict header ms (ended.Clash pair) verdict is as_it = subst (λ (v : VerdictParts). IsVerdict header ms v) (sym as_it) is

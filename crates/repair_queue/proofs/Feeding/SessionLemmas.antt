@@ -1,5 +1,5 @@
 -- A session that is fed.
-use Rattle.std.proofs.Common.{◌≡◌, ◌∙◌, List, [], ◌∷◌, ◌++◌, map, Bool, true, false, not, refl, sym, ap}
+use Rattle.std.proofs.Common.{◌≡◌, ◌∙◌, List, [], ◌∷◌, ◌++◌, map, true, false, refl, sym, ap}
 use Rattle.std.specs.Prelude.{Option, Some, None, is_some}
 use Rattle.std.proofs.lemmas.Bool.{true≢false}
 use Rattle.std.proofs.lemmas.List.{append_assoc, map-append}
@@ -21,21 +21,21 @@ use Rattle.repair_queue.specs.Pools.{HasPlace, IsRoomy}
 use Rattle.repair_queue.proofs.Facts.GrowthLemmas.{fraud_grows, clash_grows}
 
 -- a session that nothing ended
-pub open_of : (header : Roots) (b : Board) (tools : Tools) (end : Option Ended) (none : Bool) → is_some end ≡ not none → none ≡ true → IsOpenBoard header b tools end
+pub open_of : (header : Roots) (b : Board) (tools : Tools) (end : Option Ended) → is_some end ≡ false → IsOpenBoard header b tools end
     → IsGood header b × AreTools header.k tools × AreAtRest header.k (given_of b) (decided_of b)
-open_of header b tools None none test is open_board = open_board
-open_of header b tools (Some end) none test is open_board = absurd (true≢false (test ∙ ap not is))
+open_of header b tools None is open_board = open_board
+open_of header b tools (Some end) is open_board = absurd (true≢false is)
 
 -- has a place for one sample more
-pub open_place : (b : Board) (end : Option Ended) (none : Bool) → is_some end ≡ not none → none ≡ true → IsRoomyBoard b end → (IsRoomy b.pool → HasPlace b.pool) → HasPlace b.pool
-open_place b None none test is roomy place = place (roomy refl)
-open_place b (Some end) none test is roomy place = absurd (true≢false (test ∙ ap not is))
+pub open_place : (b : Board) (end : Option Ended) → is_some end ≡ false → IsRoomyBoard b end → (IsRoomy b.pool → HasPlace b.pool) → HasPlace b.pool
+open_place b None is roomy place = place (roomy refl)
+open_place b (Some end) is roomy place = absurd (true≢false is)
 
 -- it stands for what it stood for
-pub open_stands : (header : Roots) (ms : List Message) (b : Board) (end : Option Ended) (none : Bool) → is_some end ≡ not none → none ≡ true → KeepsFor header ms b end
+pub open_stands : (header : Roots) (ms : List Message) (b : Board) (end : Option Ended) → is_some end ≡ false → KeepsFor header ms b end
     → HoldsFor header ms b
-open_stands header ms b None none test is keeps = keeps
-open_stands header ms b (Some end) none test is keeps = absurd (true≢false (test ∙ ap not is))
+open_stands header ms b None is keeps = keeps
+open_stands header ms b (Some end) is keeps = absurd (true≢false is)
 
 -- after a step
 pub step_open : (header : Roots) (s t : Board) (tools : Tools) (m : Message) (result : Option Ended) → Steps header s t tools m result → IsOpenBoard header t tools result
@@ -52,10 +52,10 @@ end_more : (header : Roots) (ms : List Message) (m : Message) (end : Ended) → 
 end_more header ms m (ended.Fraud proof) is = fraud_grows header ms (ms ++ m ∷ []) proof.claim (λ n at proved. Contains-append_left ms (m ∷ []) n at) is
 end_more header ms m (ended.Clash clash) is = clash_grows header ms (ms ++ m ∷ []) clash.left clash.right (λ n at proved. Contains-append_left ms (m ∷ []) n at) is
 
-pub ended_keeps : (header : Roots) (ms : List Message) (m : Message) (b : Board) (end : Option Ended) (none : Bool) → is_some end ≡ not none → none ≡ false
+pub ended_keeps : (header : Roots) (ms : List Message) (m : Message) (b : Board) (end : Option Ended) → is_some end ≡ true
     → KeepsFor header ms b end → KeepsFor header (ms ++ m ∷ []) b end
-ended_keeps header ms m b None none test is keeps = absurd (true≢false (sym (test ∙ ap not is)))
-ended_keeps header ms m b (Some end) none test is keeps = end_more header ms m end keeps
+ended_keeps header ms m b None is keeps = absurd (true≢false (sym is))
+ended_keeps header ms m b (Some end) is keeps = end_more header ms m end keeps
 
 -- one sample more, at the end
 pub one_more : (ms : List Message) (done : List Proved) (next : Proved)

@@ -1,11 +1,13 @@
 -- A session as contracts see it keeps what its board keeps, and stands for the same samples.
-use Rattle.std.proofs.Common.{◌≡◌, ◌∙◌, ℕ, zero, suc, ◌*◌, ◌<◌, List, [], ◌∷◌, ◌++◌, map, get_or, Bool, ◌||◌, true, false, not, refl, sym, ap, subst}
+use Rattle.std.proofs.Common.{◌≡◌, ◌∙◌, ℕ, zero, suc, ◌*◌, ◌<◌, List, [], ◌∷◌, ◌++◌, map, get_or, Bool, ◌||◌, true, false, refl, sym, ap, subst}
 use Rattle.std.specs.Prelude.{Option, Some, None, is_some}
 use Rattle.std.specs.List.{Contains}
 use Rattle.namespace_id.specs.declared.cells.Cell.{Cell}
 use Rattle.namespace_id.specs.declared.cells.Axis.{Axis}
 use Rattle.namespace_id.specs.declared.cells.Axis.TheVariants.{Row, Col}
+use Rattle.namespace_id.specs.Cells.{is_width}
 use Rattle.namespace_id.specs.Lists.{ascending}
+use Rattle.namespace_id.proofs.WidthLemmas.{is_width-pos}
 use Rattle.data_header.specs.Headers.{Roots}
 use Rattle.axis_roots.specs.declared.message.messages.Message.{Message}
 use Rattle.axis_roots.specs.declared.message.proved.Proved.{Proved}
@@ -21,18 +23,24 @@ use Rattle.repair_queue.specs.declared.boards.Board.{Board}
 use Rattle.repair_queue.specs.declared.tools.Tools.{Tools}
 use Rattle.repair_queue.specs.declared.ending.Ended.{Ended}
 use Rattle.repair_queue.specs.declared.ending.Ended.TheVariants as ended
+use Rattle.repair_queue.specs.declared.verdict.Verdict.{Verdict}
 use Rattle.repair_queue.specs.Closures.{Fact, shown, IsDecided}
 use Rattle.repair_queue.specs.Settled.{IsLineSettled}
-use Rattle.repair_queue.specs.Repairs.{Shows, IsSlotted}
+use Rattle.repair_queue.specs.Repairs.{Shows, IsSlotted, IsEnd}
+use Rattle.repair_queue.specs.Verdicts.{VerdictParts, IsVerdict}
+use Rattle.repair_queue.specs.Answers.{verdict_parts, EndsAs}
+use Rattle.repair_queue.specs.Tools.{AreTools}
 use Rattle.repair_queue.specs.Places.{places_in}
 use Rattle.repair_queue.specs.Boards.{is_lined, is_found, given_of, decided_of, shared_of, IsGood, AreAtRest, HoldsFor}
 use Rattle.repair_queue.specs.Moves.{Steps}
 use Rattle.repair_queue.specs.OpenBoards.{IsOpenBoard, KeepsFor}
-use Rattle.repair_queue.specs.SessionParts.{message_kept, is_known, line_share, IsShownBy, KeepsShare, StandsOpen, SessionStands}
+use Rattle.repair_queue.specs.SessionParts.{SessionParts, message_kept, is_known, line_share, IsShownBy, KeepsShare, StandsOpen, SessionStands}
 use Rattle.repair_queue.specs.Views.{certified_message, parts_by}
 use Rattle.repair_queue.proofs.Facts.ChosenLemmas.{first_chosen, chosen-lt}
 use Rattle.repair_queue.proofs.Facts.ClosureLemmas.{fact_half}
 use Rattle.repair_queue.proofs.Places.TakenLemmas.{under_proved}
+use Rattle.repair_queue.proofs.Counting.CountedLemmas.{nothing_rests}
+use Rattle.repair_queue.proofs.Feeding.StandLemmas.{nothing_stands}
 use Rattle.repair_queue.proofs.Lines.LinedLemmas.{lined_one, lined_on}
 use Rattle.repair_queue.proofs.Feeding.AtRestLemmas.{lined_fact, found_half, half_found, decided_set, rest_settled}
 use Rattle.repair_queue.proofs.Feeding.SessionLemmas.{open_stands, step_open, step_keeps, ended_keeps}
@@ -168,18 +176,55 @@ keeps_stands header b tools None held ms keeps = holds_stands header b held.0 ms
 keeps_stands header b tools (Some (ended.Fraud proof)) held ms keeps = keeps
 keeps_stands header b tools (Some (ended.Clash pair)) held ms keeps = keeps
 
--- ---- one sample more
+-- ---- a session from its start to its end
 
--- after a step
-pub step_stands : (header : Roots) (old new : Board) (before after : Tools) (end result : Option Ended) (none : Bool) (m : Message) → is_some end ≡ not none
-    → none ≡ true → IsOpenBoard header old before end → Steps header old new after m result → (ms : List Message) → SessionStands (parts_by header old end) ms
+-- at the start nothing has ended it, and it stands for no sample
+pub new_open : (header : Roots) (b : Board) (tools : Tools) (k : ℕ) → k ≡ header.k → is_width k ≡ true → ((h : Roots) → h.k ≡ k → IsGood h b) → AreTools k tools
+    → ((axis : Axis) (cell : Cell) → given_of b axis cell ≡ None) → ((axis : Axis) (i : ℕ) → decided_of b axis i ≡ false)
+    → IsOpenBoard header b tools None × SessionStands (parts_by header b None) []
+new_open header b tools k width wide good are empty undecided =
+    let held : IsOpenBoard header b tools None = (
+      good header (sym width),
+      subst (λ (n : ℕ). AreTools n tools) width are,
+      nothing_rests header.k (given_of b) (decided_of b) (subst (λ (n : ℕ). 0 < n) width (is_width-pos k wide)) empty undecided,
+    ) in
+    (held, keeps_stands header b tools None held [] (nothing_stands header (given_of b) (decided_of b) (shared_of b) empty undecided))
+
+-- after a step it stands for one sample more
+pub step_stands : (header : Roots) (old new : Board) (before after : Tools) (end result : Option Ended) (m : Message) → is_some end ≡ false
+    → IsOpenBoard header old before end → Steps header old new after m result → (ms : List Message) → SessionStands (parts_by header old end) ms
     → SessionStands (parts_by header new result) (ms ++ m ∷ [])
-step_stands header old new before after end result none m test is held steps ms stand =
+step_stands header old new before after end result m is held steps ms stand =
     keeps_stands header new after result (step_open header old new after m result steps) (ms ++ m ∷ [])
-    (step_keeps header old new after m result steps ms (open_stands header ms old end none test is (stands_keeps header old before end held ms stand)))
+    (step_keeps header old new after m result steps ms (open_stands header ms old end is (stands_keeps header old before end held ms stand)))
 
--- where something ended the session before
-pub ended_stands : (header : Roots) (b : Board) (tools : Tools) (end : Option Ended) (none : Bool) (m : Message) → is_some end ≡ not none → none ≡ false
+-- so does one that something ended before
+pub ended_stands : (header : Roots) (b : Board) (tools : Tools) (end : Option Ended) (m : Message) → is_some end ≡ true
     → IsOpenBoard header b tools end → (ms : List Message) → SessionStands (parts_by header b end) ms → SessionStands (parts_by header b end) (ms ++ m ∷ [])
-ended_stands header b tools end none m test is held ms stand =
-    keeps_stands header b tools end held (ms ++ m ∷ []) (ended_keeps header ms m b end none test is (stands_keeps header b tools end held ms stand))
+ended_stands header b tools end m is held ms stand =
+    keeps_stands header b tools end held (ms ++ m ∷ []) (ended_keeps header ms m b end is (stands_keeps header b tools end held ms stand))
+
+-- what ended a session is an answer
+ended_verdict : (header : Roots) (ms : List Message) (end : Ended) (verdict : Verdict) → IsEnd header ms end → EndsAs end verdict
+    → IsVerdict header ms (verdict_parts verdict)
+ended_verdict header ms (ended.Fraud proof) verdict is as_it = subst (λ (v : VerdictParts). IsVerdict header ms v) (sym as_it) is
+ended_verdict header ms (ended.Clash pair) verdict is as_it = subst (λ (v : VerdictParts). IsVerdict header ms v) (sym as_it) is
+
+module _ (header : Roots) (b : Board) (tools : Tools) (end : Option Ended) (s : SessionParts) (view : parts_by header b end ≡ s)
+    (held : IsOpenBoard header b tools end) (ms : List Message) (stand : SessionStands s ms) where
+  -- what is kept where this ended it
+  finish_keeps : (other : Option Ended) → end ≡ other → KeepsFor header ms b other
+  finish_keeps other is =
+      subst (λ (e : Option Ended). KeepsFor header ms b e) is
+      (stands_keeps header b tools end held ms (subst (λ (x : SessionParts). SessionStands x ms) (sym view) stand))
+
+  finish_header : (v : VerdictParts) → IsVerdict header ms v → IsVerdict s.header ms v
+  finish_header v = subst (λ (h : Roots). IsVerdict h ms v) (ap (λ (x : SessionParts). x.header) view)
+
+  -- where nothing did, what the board answers is an answer
+  pub finish_open : (v : VerdictParts) → end ≡ None → (HoldsFor header ms b → IsVerdict header ms v) → IsVerdict s.header ms v
+  finish_open v none answers = finish_header v (answers (finish_keeps None none))
+
+  -- where something did, that is
+  pub finish_ended : (e : Ended) (verdict : Verdict) → end ≡ Some e → EndsAs e verdict → IsVerdict s.header ms (verdict_parts verdict)
+  finish_ended e verdict some as_it = finish_header (verdict_parts verdict) (ended_verdict header ms e verdict (finish_keeps (Some e) some) as_it)
