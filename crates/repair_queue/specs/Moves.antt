@@ -1,39 +1,24 @@
 -- What each step of a session does: a sample, a row or a column, and all of them.
-use Rattle.std.specs.Prelude.{◌≡◌, ◌≢◌, ℕ, List, [], ◌∷◌, ◌++◌, true, false, Option, Some, None}
+use Rattle.std.specs.Prelude.{◌≡◌, ℕ, List, [], ◌∷◌, ◌++◌, Option, Some, None}
 use Rattle.namespace_id.specs.declared.cells.Axis.{Axis}
 use Rattle.namespace_id.specs.declared.cells.Cell.{Cell}
 use Rattle.namespace_id.specs.declared.shares.Share.{Share}
 use Rattle.data_header.specs.Headers.{Roots}
 use Rattle.axis_roots.specs.declared.message.messages.Message.{Message}
 use Rattle.axis_roots.specs.declared.message.proved.Proved.{Proved}
-use Rattle.axis_roots.specs.Messages.{index}
 use Rattle.axis_roots.specs.Proved.{kept_message, IsUnder}
 use Rattle.repair_queue.specs.declared.boards.Board.{Board}
 use Rattle.repair_queue.specs.declared.tools.Tools.{Tools}
-use Rattle.repair_queue.specs.declared.taking.Taken.{Taken}
-use Rattle.repair_queue.specs.declared.taking.Taken.TheVariants.{Kept, Against, Beside}
 use Rattle.repair_queue.specs.declared.ending.Ended.{Ended}
 use Rattle.repair_queue.specs.Lines.{AreFacts}
 use Rattle.repair_queue.specs.Repairs.{IsEnd}
-use Rattle.repair_queue.specs.Boards.{given_of, decided_of, shared_of, is_lined, IsGood, HoldsFor, AreAtRest}
+use Rattle.repair_queue.specs.Boards.{given_of, decided_of, IsGood, HoldsFor, AreAtRest}
 use Rattle.repair_queue.specs.Tools.{AreTools}
 
 -- a sample is kept, or its share was known
 abbrev pub IsKeptOn : Roots → Board → Board → Message → Type 0
 IsKeptOn header s t m =
     IsGood header t × ((ms : List Message) → HoldsFor header ms s → HoldsFor header (ms ++ m ∷ []) t)
-
--- what comes of a sample: it is kept; or a decided row or column through its cell has another share; or there is none and
--- a sample that is kept along its axis shows another one
-abbrev pub EntersSample : Roots → Board → Board → Proved → Taken → Type 0
-EntersSample header s t message Kept = IsKeptOn header s t (kept_message message)
-EntersSample header s t message (Against axis back) =
-    (back ≡ message) × (t ≡ s) × (decided_of s axis (index axis (kept_message message).cell) ≡ true)
-    × (shared_of s (kept_message message).cell ≢ (kept_message message).share)
-EntersSample header s t message (Beside back kept) =
-    (back ≡ message) × (given_of s (kept_message message).axis (kept_message message).cell ≡ Some kept)
-    × ((kept_message kept).share ≢ (kept_message message).share)
-    × (is_lined (decided_of s) (kept_message message).cell ≡ false)
 
 -- a sample is taken in, or it ends the session
 abbrev pub TakesMessage : Roots → Board → Board → Tools → Message → Option Ended → Type 0

@@ -27,7 +27,6 @@ mod pools;
 mod repairing;
 mod rooting;
 mod sessions;
-mod taking;
 mod tools;
 mod verdict;
 

@@ -198,12 +198,13 @@ module _ (k : ℕ) (flag : Flags) (old new : Kept) (cell : Cell) (inside : is_in
       (λ q apart. x.elsewhere (cell_on axis i q) (λ e. apart (sym (position-cell_on axis i q) ∙ ap (position axis) e))) in
       more ∙ ap (λ (b : Bool). found_count old flag axis i (2 * k) + one_if (not b)) (ap (is_found old flag) own ∙ x.was)
 
-  -- before, fewer than all of them were known
-  pub count_few : (axis : Axis) → found_count old flag axis (index axis cell) (2 * k) < 2 * k
-  count_few axis =
-      count_from-lt (λ pos. is_found old flag (cell_on axis (index axis cell) pos)) (2 * k) 0 (position axis cell) (omega arith)
-      (let below : position axis cell < 2 * k = position-lt k axis cell inside in omega arith)
-      (ap (is_found old flag) (cell_on-own axis cell) ∙ x.was)
+-- fewer than all cells of a row or a column through an unknown one are known
+pub count_few : (k : ℕ) (flag : Flags) (slot : Kept) (cell : Cell) → is_in_square k cell ≡ true → is_found slot flag cell ≡ false → (axis : Axis)
+    → found_count slot flag axis (index axis cell) (2 * k) < 2 * k
+count_few k flag slot cell inside was axis =
+    count_from-lt (λ pos. is_found slot flag (cell_on axis (index axis cell) pos)) (2 * k) 0 (position axis cell) (omega arith)
+    (let below : position axis cell < 2 * k = position-lt k axis cell inside in omega arith)
+    (ap (is_found slot flag) (cell_on-own axis cell) ∙ was)
 
 -- ---- at the start
 

@@ -1,8 +1,8 @@
 -- A sample that is taken out of a pool, and shares that are compared.
-use Rattle.std.proofs.Common.{◌≡◌, ◌∙◌, ◌⊎◌, ℕ, ◌+◌, ◌<◌, List, length, get_or, Bool, false, not, refl, sym, ap, subst, inl, inr, arith}
+use Rattle.std.proofs.Common.{◌≡◌, ◌≢◌, ◌∙◌, ◌⊎◌, ℕ, ◌+◌, ◌<◌, List, length, get_or, Bool, true, false, refl, sym, ap, subst, inl, inr, arith}
 use Rattle.std.specs.Prelude.{Option, Some, None}
 use Rattle.std.specs.Str.{bytes_eq}
-use Rattle.std.proofs.lemmas.Bool.{cases_lt, cases_Bool, true≢false}
+use Rattle.std.proofs.lemmas.Bool.{cases_lt, true≢false}
 use Rattle.std.proofs.lemmas.List.{get_or_default}
 use Rattle.std.proofs.lemmas.Slice.Eq.{bytes_eq-Decides}
 use Rattle.namespace_id.specs.declared.cells.Cell.{Cell}
@@ -19,12 +19,13 @@ pub message_or_not : (slot : Option Proved) → ((kept : Proved) × (slot ≡ So
 message_or_not (Some kept) = inl (kept, refl)
 message_or_not None = inr refl
 
--- two shares that aren't found to differ are one
-pub same_ne : (a b : Share) (t : Bool) → t ≡ not (bytes_eq a.0 b.0) → t ≡ false → a ≡ b
-same_ne a b t test is = elim (cases_Bool (bytes_eq a.0 b.0)) [
-  | inl e ↦ ap (λ (l : List ℕ). record { 0 = l }) ((bytes_eq-Decides a.0 b.0).0 e)
-  | inr e ↦ absurd (true≢false (sym (ap not e) ∙ sym test ∙ is))
-]
+-- two shares that are found to be one
+pub same_eq : (a b : Share) (t : Bool) → t ≡ bytes_eq a.0 b.0 → t ≡ true → a ≡ b
+same_eq a b t test is = ap (λ (l : List ℕ). record { 0 = l }) ((bytes_eq-Decides a.0 b.0).0 (sym test ∙ is))
+
+-- or aren't
+pub apart_eq : (a b : Share) (t : Bool) → t ≡ bytes_eq a.0 b.0 → t ≡ false → a ≢ b
+apart_eq a b t test is e = true≢false (sym ((bytes_eq-Decides a.0 b.0).1 (ap (λ (s : Share). s.0) e)) ∙ sym test ∙ is)
 
 -- one position more at which no other share is known
 pub next_alike : (slot : Kept) (flag : Flags) (shares : Shared) (axis : Axis) (i pos : ℕ) (line : List Share) (cell : Cell) (d : Share)
