@@ -1,5 +1,5 @@
 -- Keeping the line of a row or a column: what is counted, what is written, and which samples are taken out.
-use Rattle.std.specs.Prelude.{◌≡◌, ◌≢◌, ◌⊎◌, ℕ, ◌+◌, ◌*◌, ◌<◌, List, get_or, true, not, None}
+use Rattle.std.specs.Prelude.{◌≡◌, ◌≢◌, ◌⊎◌, ℕ, ◌+◌, ◌*◌, ◌<◌, ◌≤◌, List, get_or, true, not, None}
 use Rattle.namespace_id.specs.declared.cells.Cell.{Cell}
 use Rattle.namespace_id.specs.declared.cells.Axis.{Axis}
 use Rattle.namespace_id.specs.declared.shares.Share.{Share}
@@ -22,10 +22,10 @@ use Rattle.repair_queue.specs.Judging.{IsAlikeAt}
 abbrev pub IsAlikeAll : ℕ → Kept → Flags → Shared → Axis → ℕ → List Share → Type 0
 IsAlikeAll k slot flag shares axis i line = (pos : ℕ) → pos < 2 * k → IsAlikeAt slot flag shares (cell_on axis i pos) (entry line pos)
 
--- the unknown cells of a row or a column are counted for those that cross it, and those that came to have k wait
-pub record IsCountedIn (k : ℕ) (slot : Kept) (flag : Flags) (axis : Axis) (i : ℕ) (old new : Numbers) (before after : List (Axis × ℕ)) : Type 0 where
-  pub across : (pos : ℕ) → pos < 2 * k
-      → new (crossing axis) pos ≡ old (crossing axis) pos + one_if (not (is_found slot flag (cell_on axis i pos)))
+-- the unknown ones of the first n cells of a row or a column are counted for those that cross it, and those that came to have k wait
+pub record IsCountedTo (k : ℕ) (slot : Kept) (flag : Flags) (axis : Axis) (i : ℕ) (old new : Numbers) (before after : List (Axis × ℕ)) (n : ℕ) : Type 0 where
+  pub across : (pos : ℕ) → pos < n → new (crossing axis) pos ≡ old (crossing axis) pos + one_if (not (is_found slot flag (cell_on axis i pos)))
+  pub later : (pos : ℕ) → n ≤ pos → new (crossing axis) pos ≡ old (crossing axis) pos
   pub own : (j : ℕ) → new axis j ≡ old axis j
   pub queued : AreQueued k old new before after
 

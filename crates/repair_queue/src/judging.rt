@@ -58,14 +58,7 @@ fn first_apart(board: &Board, axis: Axis, index: u16, line: &[Share]) -> Option<
     requires parts { AreParts board.now }
     requires index { index < 2 * board.now.grid.k }
     requires line { length line.now ≡ 2 * board.now.grid.k }
-    ensures none { IsNone result → (pos : ℕ) → pos < 2 * board.now.grid.k →
-        IsAlikeAt (given_of board.now) (decided_of board.now) (shared_of board.now)
-        (cell_on axis index pos)
-        (entry line.now pos) }
-    ensures some { IfSome result (λ pos. (pos < 2 * board.now.grid.k)
-        × IsApartAt (given_of board.now) (decided_of board.now) (shared_of board.now)
-        (cell_on axis index pos)
-        (entry line.now pos)) }
+    ensures { IsApartOrAlike board.now.grid.k board.now axis index line.now result }
 {
     for pos in 0..2 * board.grid.width() {
         if is_apart(board, cell_on(axis, index, pos), &line[pos as usize]) {

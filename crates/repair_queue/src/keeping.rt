@@ -11,7 +11,7 @@ ghost use Rattle.repair_queue.specs.Slots.{IsFlagged};
 ghost use Rattle.repair_queue.specs.Counts.{count_of, pending};
 ghost use Rattle.repair_queue.specs.Pools.{slot_in, StaysRoomy};
 ghost use Rattle.repair_queue.specs.Boards.{given_of, decided_of, shared_of, mark_of, is_lined, AreAlikeLined, AreCounted, IsGood};
-ghost use Rattle.repair_queue.specs.Keeping.{IsAlikeAll, IsCountedIn, AreWrittenLeaves, IsClearedAt, IsClearedTo, IsLineKept};
+ghost use Rattle.repair_queue.specs.Keeping.{IsAlikeAll, IsCountedTo, AreWrittenLeaves, IsClearedAt, IsClearedTo, IsLineKept};
 
 use crate::boards::{Board, is_found, is_on_decided};
 use crate::counts::Counts;
@@ -31,8 +31,9 @@ fn count_line(pool: &Pool, marks: &Marks, counts: &mut Counts, axis: Axis, index
         (count_of counts.old) }
     ensures width { counts.new.k ≡ counts.old.k }
     ensures next { counts.new.next ≡ counts.old.next }
-    ensures counted { IsCountedIn counts.old.k (slot_in pool.now) (mark_of marks.now) axis index
-        (count_of counts.old) (count_of counts.new) (pending counts.old) (pending counts.new) }
+    ensures counted { IsCountedTo counts.old.k (slot_in pool.now) (mark_of marks.now) axis index
+        (count_of counts.old) (count_of counts.new) (pending counts.old) (pending counts.new)
+        (2 * counts.old.k) }
 {
     let cross = axis.crossing();
     for pos in 0..2 * counts.k {
@@ -167,8 +168,6 @@ pub(crate) fn keep_line(
     ensures kept { IsLineKept header.now board.old board.new axis index line.now }
     ensures next { board.new.counts.next ≡ board.old.counts.next }
     ensures flagged { IsFlagged (decided_of board.old) (decided_of board.new) axis index }
-    ensures cleared { IsClearedTo (given_of board.old) (given_of board.new) axis index
-        (2 * header.now.k) }
     ensures room { StaysRoomy board.old.pool board.new.pool }
 {
     keep_shares(board, header, axis, index, line, digests);

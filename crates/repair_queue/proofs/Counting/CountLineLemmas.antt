@@ -1,5 +1,5 @@
 -- Counting the unknown cells of a row or a column for those that cross it.
-use Rattle.std.proofs.Common.{◌≡◌, ◌∙◌, ℕ, ◌+◌, ◌*◌, ◌<◌, ◌≤◌, List, Bool, true, false, not, refl, sym, ap, subst, inl, inr, arith}
+use Rattle.std.proofs.Common.{◌≡◌, ◌∙◌, ℕ, ◌+◌, ◌*◌, ◌<◌, List, Bool, true, false, not, refl, sym, ap, subst, inl, inr, arith}
 use Rattle.std.proofs.lemmas.Bool.{cases_lt, cases_Bool, true≢false}
 use Rattle.namespace_id.specs.declared.cells.Cell.{Cell}
 use Rattle.namespace_id.specs.declared.cells.Axis.{Axis}
@@ -10,16 +10,9 @@ use Rattle.repair_queue.specs.Slots.{Kept, Flags}
 use Rattle.repair_queue.specs.Counting.{one_if}
 use Rattle.repair_queue.specs.Counts.{Numbers, IsRaised, AreQueued}
 use Rattle.repair_queue.specs.Boards.{is_lined, is_found, found_count, AreCounted}
-use Rattle.repair_queue.specs.Keeping.{IsCountedIn}
+use Rattle.repair_queue.specs.Keeping.{IsCountedTo}
 use Rattle.repair_queue.proofs.Lines.LinedLemmas.{lined_on, found_lined}
 use Rattle.repair_queue.proofs.Counting.CountedLemmas.{count_from-lt, crossing_cell}
-
--- those of the first positions are counted
-pub record IsCountedSo (k : ℕ) (slot : Kept) (flag : Flags) (axis : Axis) (i : ℕ) (old new : Numbers) (before after : List (Axis × ℕ)) (n : ℕ) : Type 0 where
-  pub across : (pos : ℕ) → pos < n → new (crossing axis) pos ≡ old (crossing axis) pos + one_if (not (is_found slot flag (cell_on axis i pos)))
-  pub later : (pos : ℕ) → n ≤ pos → new (crossing axis) pos ≡ old (crossing axis) pos
-  pub own : (j : ℕ) → new axis j ≡ old axis j
-  pub queued : AreQueued k old new before after
 
 -- an axis isn't the crossing one
 not_crossing : (axis : Axis) → axis ≡ crossing axis → ⊥
@@ -27,7 +20,7 @@ not_crossing Row e = absurd cc
 not_crossing Col e = absurd cc
 
 -- none at first
-pub none_so : (k : ℕ) (slot : Kept) (flag : Flags) (axis : Axis) (i : ℕ) (old : Numbers) (before : List (Axis × ℕ)) → IsCountedSo k slot flag axis i old old before before 0
+pub none_so : (k : ℕ) (slot : Kept) (flag : Flags) (axis : Axis) (i : ℕ) (old : Numbers) (before : List (Axis × ℕ)) → IsCountedTo k slot flag axis i old old before before 0
 none_so k slot flag axis i old before = record {
   across = λ pos h. absurd (omega arith);
   later = λ pos h. refl;
@@ -36,9 +29,9 @@ none_so k slot flag axis i old before = record {
 }
 
 module _ (k : ℕ) (slot : Kept) (flag : Flags) (axis : Axis) (i : ℕ) (old new : Numbers) (before after : List (Axis × ℕ)) (pos : ℕ) (cell : Cell)
-    (is : cell ≡ cell_on axis i pos) (so : IsCountedSo k slot flag axis i old new before after pos) where
+    (is : cell ≡ cell_on axis i pos) (so : IsCountedTo k slot flag axis i old new before after pos) where
   -- a known cell isn't counted
-  pub known_so : is_found slot flag cell ≡ true → IsCountedSo k slot flag axis i old new before after (pos + 1)
+  pub known_so : is_found slot flag cell ≡ true → IsCountedTo k slot flag axis i old new before after (pos + 1)
   known_so found = record {
     across = λ p h. elim (cases_lt p pos) [
       | inl earlier ↦ so.across p earlier
@@ -55,7 +48,7 @@ module _ (k : ℕ) (slot : Kept) (flag : Flags) (axis : Axis) (i : ℕ) (old new
 
   -- an unknown one is
   pub unknown_so : (cross : Axis) (newer : Numbers) (then : List (Axis × ℕ)) → cross ≡ crossing axis → is_found slot flag cell ≡ false → IsRaised new newer cross pos
-      → AreQueued k new newer after then → IsCountedSo k slot flag axis i old newer before then (pos + 1)
+      → AreQueued k new newer after then → IsCountedTo k slot flag axis i old newer before then (pos + 1)
   unknown_so cross newer then crosses unfound raised_cross queued =
       let raised : IsRaised new newer (crossing axis) pos = subst (λ (a : Axis). IsRaised new newer a pos) crosses raised_cross in
       record {
@@ -92,8 +85,3 @@ module _ (k : ℕ) (slot : Kept) (flag : Flags) (axis : Axis) (i : ℕ) (old new
       let few : found_count slot flag (crossing axis) pos (2 * k) < 2 * k =
       count_from-lt (λ p. is_found slot flag (cell_on (crossing axis) pos p)) (2 * k) 0 i (omega arith) (omega arith) (ap (is_found slot flag) own ∙ unfound) in
       subst (λ (a : Axis). new a pos < 2 * k) (sym crosses) (omega (arith, so.later pos (omega arith), counted (crossing axis) pos hp low, few))
-
--- all of them
-pub all_so : (k : ℕ) (slot : Kept) (flag : Flags) (axis : Axis) (i : ℕ) (old new : Numbers) (before after : List (Axis × ℕ)) (n : ℕ) → 2 * k ≤ n
-    → IsCountedSo k slot flag axis i old new before after n → IsCountedIn k slot flag axis i old new before after
-all_so k slot flag axis i old new before after n end so = record { across = λ pos h. so.across pos (omega arith); own = so.own; queued = so.queued }

@@ -16,7 +16,7 @@ use Rattle.repair_queue.specs.Slots.{Kept, Flags, IsFlagged}
 use Rattle.repair_queue.specs.Counting.{one_if, count_from}
 use Rattle.repair_queue.specs.Counts.{Numbers}
 use Rattle.repair_queue.specs.Boards.{is_lined, is_found, found_count, AreAtRest, AreCounted, AreWaiting}
-use Rattle.repair_queue.specs.Keeping.{IsCountedIn}
+use Rattle.repair_queue.specs.Keeping.{IsCountedTo}
 use Rattle.namespace_id.proofs.MemberLemmas.{contains_none}
 use Rattle.repair_queue.proofs.Counting.PassingLemmas.{chosen_counted}
 use Rattle.repair_queue.proofs.Places.PlaceLemmas.{own_or_crossing}
@@ -137,7 +137,7 @@ module _ (k : ℕ) (slot : Kept) (flag raised : Flags) (axis : Axis) (i : ℕ) (
       (λ q apart. found_else (cell_on (crossing axis) j q) (λ e. apart (sym (crossing_index axis j q) ∙ e))) in
       more ∙ ap (λ (c : Cell). found_count slot flag (crossing axis) j (2 * k) + one_if (not (is_found slot flag c))) (crossing_cell axis i j)
 
-  module _ (old new : Numbers) (before after : List (Axis × ℕ)) (counted_in : IsCountedIn k slot flag axis i old new before after) where
+  module _ (old new : Numbers) (before after : List (Axis × ℕ)) (counted_in : IsCountedTo k slot flag axis i old new before after (2 * k)) where
     -- so the counts are right
     pub kept_counted : AreCounted k slot flag old → AreCounted k slot raised new
     kept_counted counted other j below off =

@@ -1,6 +1,6 @@
 -- Deciding a row or a column by the known cells that were gathered.
 use Rattle.std.proofs.Common.{◌≡◌, ◌∙◌, ℕ, ◌*◌, ◌<◌, List, length, get_or, cond, Bool, true, false, refl, sym, ap, subst, inl, inr, arith}
-use Rattle.std.specs.Prelude.{Option, Some, None, IsNone, IfSome}
+use Rattle.std.specs.Prelude.{Option, Some, None}
 use Rattle.std.proofs.lemmas.Bool.{cases_Bool}
 use Rattle.std.proofs.lemmas.List.{get_or_default}
 use Rattle.std.proofs.lemmas.Option.{slice_get-get_or, get_or_from_slice_get}
@@ -22,22 +22,13 @@ use Rattle.repair_queue.specs.declared.ending.Ended.{Ended}
 use Rattle.repair_queue.specs.Closures.{AreChosen, Fact, rebuilt}
 use Rattle.repair_queue.specs.Slots.{Kept, Flags}
 use Rattle.repair_queue.specs.Lines.{AreFacts}
-use Rattle.repair_queue.specs.Boards.{Shared, is_lined, is_found, share_of_first, found_share, given_of, decided_of, shared_of, IsSound, Stands, HoldsFor}
-use Rattle.repair_queue.specs.Judging.{IsAlikeAt, IsApartAt, IsApartOrAlike}
+use Rattle.repair_queue.specs.Boards.{Shared, is_lined, is_found, share_of_first, found_share, IsSound, Stands, HoldsFor}
 use Rattle.repair_queue.specs.Tools.{AreGathered}
 use Rattle.repair_queue.specs.Moves.{SettlesLine, DecidesLine}
 use Rattle.repair_queue.proofs.Facts.ChosenLemmas.{chosen-lt}
 use Rattle.repair_queue.proofs.Lines.LinedLemmas.{found_how}
 use Rattle.repair_queue.proofs.Feeding.AtRestLemmas.{lined_fact, shown_fact}
 use Rattle.repair_queue.proofs.Places.TakeFromLemmas.{message_or_not}
-
--- whether a position was found
-pub apart_or_alike : (k n : ℕ) (b : Board) (axis : Axis) (i : ℕ) (line : List Share) (apart : Option ℕ) → n ≡ k
-    → (IsNone apart → (pos : ℕ) → pos < 2 * n → IsAlikeAt (given_of b) (decided_of b) (shared_of b) (cell_on axis i pos) (entry line pos))
-    → IfSome apart (λ pos. (pos < 2 * n) × IsApartAt (given_of b) (decided_of b) (shared_of b) (cell_on axis i pos) (entry line pos))
-    → IsApartOrAlike k b axis i line apart
-apart_or_alike k n b axis i line None same none some = λ pos below. none refl pos (subst (λ (m : ℕ). pos < 2 * m) (sym same) below)
-apart_or_alike k n b axis i line (Some pos) same none some = (subst (λ (m : ℕ). pos < 2 * m) same some.0, some.1)
 
 module _ (header : Roots) (ms : List Message) (slot : Kept) (flag : Flags) (shares : Shared) (sound : IsSound header slot flag shares) (stand : Stands header ms slot flag shares) where
   -- the share that is known of a cell is a fact

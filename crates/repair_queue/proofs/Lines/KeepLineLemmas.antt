@@ -24,7 +24,7 @@ use Rattle.repair_queue.specs.Slots.{IsFlagged}
 use Rattle.repair_queue.specs.Lines.{AreFacts}
 use Rattle.repair_queue.specs.Counts.{count_of, pending}
 use Rattle.repair_queue.specs.Boards.{mark_of, given_of, decided_of, shared_of, is_lined, AreLeavesOf, IsGood, HoldsFor}
-use Rattle.repair_queue.specs.Keeping.{IsAlikeAll, IsCountedIn, AreWrittenLeaves}
+use Rattle.repair_queue.specs.Keeping.{IsAlikeAll, IsCountedTo, AreWrittenLeaves}
 use Rattle.repair_queue.proofs.Lines.LinedLemmas.{lined_else}
 use Rattle.repair_queue.proofs.Counting.CountedLemmas.{kept_counted, kept_waiting}
 use Rattle.repair_queue.proofs.Lines.DigestLemmas.{leaf_at}
@@ -40,7 +40,7 @@ pub record IsLineKeptOn (header : Roots) (b : Board) (axis : Axis) (i : ℕ) (li
   pub fits : IsLineOf header axis i line
   pub alike : IsAlikeAll header.k (given_of b) (decided_of b) (shared_of b) axis i line
   pub counts_width : counts.k ≡ b.counts.k
-  pub counted : IsCountedIn b.counts.k (given_of b) (decided_of b) axis i (count_of b.counts) (count_of counts) (pending b.counts) (pending counts)
+  pub counted : IsCountedTo b.counts.k (given_of b) (decided_of b) axis i (count_of b.counts) (count_of counts) (pending b.counts) (pending counts) (2 * b.counts.k)
   pub grid_width : grid.k ≡ b.grid.k
   pub written : axis_shares b.grid.k grid.shares axis i ≡ line
   pub others : (cell : Cell) → IsTrue (is_in_square b.grid.k cell) → index axis cell ≢ i
@@ -111,9 +111,9 @@ module _ (header : Roots) (b : Board) (axis : Axis) (i : ℕ) (line : List Share
   counts_same : b.counts.k ≡ header.k
   counts_same = x.good.parts.counts_width ∙ sym x.good.width
 
-  counted_here : IsCountedIn header.k (given_of b) (decided_of b) axis i (count_of b.counts) (count_of counts) (pending b.counts) (pending counts)
+  counted_here : IsCountedTo header.k (given_of b) (decided_of b) axis i (count_of b.counts) (count_of counts) (pending b.counts) (pending counts) (2 * header.k)
   counted_here =
-      subst (λ (k : ℕ). IsCountedIn k (given_of b) (decided_of b) axis i (count_of b.counts) (count_of counts) (pending b.counts) (pending counts)) counts_same x.counted
+      subst (λ (k : ℕ). IsCountedTo k (given_of b) (decided_of b) axis i (count_of b.counts) (count_of counts) (pending b.counts) (pending counts) (2 * k)) counts_same x.counted
 
   -- it is good
   pub kept_good : IsGood header kept_board

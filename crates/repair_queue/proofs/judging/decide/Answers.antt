@@ -1,9 +1,9 @@
-use Rattle.std.proofs.Common.{◌∙◌, List, sym, ap, subst, Vec, Global}
+use Rattle.std.proofs.Common.{◌∙◌, ℕ, List, sym, ap, subst, Vec, Global}
 use Rattle.namespace_id.specs.declared.shares.Share.{Share}
 use Rattle.repair_queue.specs.Boards.{given_of, decided_of, shared_of}
 use Rattle.repair_queue.specs.Lines.{AreFacts}
 use Rattle.repair_queue.specs.Judging.{IsApartOrAlike}
-use Rattle.repair_queue.proofs.Lines.DecideLemmas.{apart_or_alike, gathered_facts, settles_decides}
+use Rattle.repair_queue.proofs.Lines.DecideLemmas.{gathered_facts, settles_decides}
 use Rattle.repair_queue.proofs.judging.decide.Goals as goal
 
 -- another share is known at a position, or none is
@@ -11,8 +11,8 @@ pub settle-requires-clause-apart : goal.settle-requires-clause-apart
 settle-requires-clause-apart c =
     subst (λ (l : List Share). IsApartOrAlike c.args.header.now.k c.args.board.now c.args.axis c.args.index l c.first_apart-apart.result)
     (c.deref.ensures.value ∙ ap (λ (v : Vec Share Global). v.items) (sym c.has_root.ensures.line))
-    (apart_or_alike c.args.header.now.k c.args.board.now.grid.k c.args.board.now c.args.axis c.args.index c.deref.result.now c.first_apart-apart.result
-    (sym c.requires.good.width) c.first_apart-apart.ensures.none c.first_apart-apart.ensures.some)
+    (subst (λ (k : ℕ). IsApartOrAlike k c.args.board.now c.args.axis c.args.index c.deref.result.now c.first_apart-apart.result) (sym c.requires.good.width)
+    c.first_apart-apart.ensures)
 
 -- the line is made of facts
 pub returns-then-has_root-clause-decides : goal.returns-then-has_root-clause-decides

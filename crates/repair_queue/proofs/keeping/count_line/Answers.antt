@@ -3,7 +3,8 @@ use Rattle.repair_queue.specs.declared.counts.Counts.{Counts}
 use Rattle.repair_queue.specs.Pools.{slot_in}
 use Rattle.repair_queue.specs.Boards.{mark_of}
 use Rattle.repair_queue.specs.Counts.{count_of, pending, AreQueued}
-use Rattle.repair_queue.proofs.Counting.CountLineLemmas.{IsCountedSo, none_so, known_so, unknown_so, few_so, all_so}
+use Rattle.repair_queue.specs.Keeping.{IsCountedTo}
+use Rattle.repair_queue.proofs.Counting.CountLineLemmas.{none_so, known_so, unknown_so, few_so}
 use Rattle.repair_queue.proofs.keeping.count_line.Goals.{then-not-is_found, else-not-is_found}
 use Rattle.repair_queue.proofs.keeping.count_line.Goals as goal
 
@@ -30,7 +31,7 @@ loop-pos-preserved c = elim c.if-not-is_found.branch [
   | then-not-is_found w ↦ record {
     width = ap (λ (t : Counts). t.k) w.counts-is ∙ w.raise.ensures.width ∙ c.loop-pos.invariant.width;
     next = ap (λ (t : Counts). t.next) w.counts-is ∙ w.raise.ensures.next ∙ c.loop-pos.invariant.next;
-    so = subst (λ (t : Counts). IsCountedSo c.args.counts.now.k (slot_in c.args.pool.now) (mark_of c.args.marks.now) c.args.axis c.args.index (count_of c.args.counts.now)
+    so = subst (λ (t : Counts). IsCountedTo c.args.counts.now.k (slot_in c.args.pool.now) (mark_of c.args.marks.now) c.args.axis c.args.index (count_of c.args.counts.now)
         (count_of t) (pending c.args.counts.now) (pending t) (c.loop-pos.pos + 1)) (sym w.counts-is)
         (unknown_so c.args.counts.now.k (slot_in c.args.pool.now) (mark_of c.args.marks.now) c.args.axis c.args.index (count_of c.args.counts.now) (count_of c.loop-pos.counts)
         (pending c.args.counts.now) (pending c.loop-pos.counts) c.loop-pos.pos c.cell_on.result c.cell_on.ensures c.loop-pos.invariant.so c.crossing-cross.result
@@ -41,7 +42,7 @@ loop-pos-preserved c = elim c.if-not-is_found.branch [
   | else-not-is_found w ↦ record {
     width = ap (λ (t : Counts). t.k) w.counts-is ∙ c.loop-pos.invariant.width;
     next = ap (λ (t : Counts). t.next) w.counts-is ∙ c.loop-pos.invariant.next;
-    so = subst (λ (t : Counts). IsCountedSo c.args.counts.now.k (slot_in c.args.pool.now) (mark_of c.args.marks.now) c.args.axis c.args.index (count_of c.args.counts.now)
+    so = subst (λ (t : Counts). IsCountedTo c.args.counts.now.k (slot_in c.args.pool.now) (mark_of c.args.marks.now) c.args.axis c.args.index (count_of c.args.counts.now)
         (count_of t) (pending c.args.counts.now) (pending t) (c.loop-pos.pos + 1)) (sym w.counts-is)
         (known_so c.args.counts.now.k (slot_in c.args.pool.now) (mark_of c.args.marks.now) c.args.axis c.args.index (count_of c.args.counts.now) (count_of c.loop-pos.counts)
         (pending c.args.counts.now) (pending c.loop-pos.counts) c.loop-pos.pos c.cell_on.result c.cell_on.ensures c.loop-pos.invariant.so
@@ -52,5 +53,5 @@ loop-pos-preserved c = elim c.if-not-is_found.branch [
 -- all are
 pub returns-clause-counted : goal.returns-clause-counted
 returns-clause-counted c =
-    all_so c.args.counts.now.k (slot_in c.args.pool.now) (mark_of c.args.marks.now) c.args.axis c.args.index (count_of c.args.counts.now) (count_of c.loop-pos.counts)
-    (pending c.args.counts.now) (pending c.loop-pos.counts) c.loop-pos.pos (omega (arith, c.loop-pos.invariant.width)) c.loop-pos.invariant.so
+    subst (IsCountedTo c.args.counts.now.k (slot_in c.args.pool.now) (mark_of c.args.marks.now) c.args.axis c.args.index (count_of c.args.counts.now)
+    (count_of c.loop-pos.counts) (pending c.args.counts.now) (pending c.loop-pos.counts)) (omega (arith, c.loop-pos.invariant.width)) c.loop-pos.invariant.so
