@@ -12,5 +12,4 @@ pub mod WholeLemmas
 pub mod ConflictLemmas
 pub mod BesideLemmas
 pub mod NothingLemmas
-pub mod WholeRepairLemmas
 pub mod SessionLawLemmas

@@ -3,4 +3,3 @@ pub mod Places
 pub mod Counting
 pub mod Lines
 pub mod Feeding
-pub mod UnknownLemmas

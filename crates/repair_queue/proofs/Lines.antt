@@ -6,6 +6,5 @@ pub mod DigestLemmas
 pub mod WriteLemmas
 pub mod MakeLemmas
 pub mod DecideLemmas
-pub mod HeldLineLemmas
 pub mod KeepLineLemmas
 pub mod ClearLemmas

@@ -29,9 +29,9 @@ pub record IsCountedTo (k : ℕ) (slot : Kept) (flag : Flags) (axis : Axis) (i :
   pub own : (j : ℕ) → new axis j ≡ old axis j
   pub queued : AreQueued k old new before after
 
--- the digests of the leaves of a line stand along its row or column, and all others are as they were
-pub record AreWrittenLeaves (k : ℕ) (old new : List Digest) (axis : Axis) (i : ℕ) (digests : List Digest) : Type 0 where
-  pub here : (pos : ℕ) → pos < 2 * k
+-- the first n digests of the leaves of a line stand along its row or column, and all those off it are as they were
+pub record AreWrittenLeaves (k : ℕ) (old new : List Digest) (axis : Axis) (i : ℕ) (digests : List Digest) (n : ℕ) : Type 0 where
+  pub here : (pos : ℕ) → pos < n
       → get_or new ((cell_on axis i pos).row * (2 * k) + (cell_on axis i pos).col) no_digest ≡ get_or digests pos no_digest
   pub elsewhere : (cell : Cell) → is_in_square k cell ≡ true → index axis cell ≢ i
       → get_or new (cell.row * (2 * k) + cell.col) no_digest ≡ get_or old (cell.row * (2 * k) + cell.col) no_digest

@@ -7,9 +7,6 @@ ghost use Rattle.namespace_id.specs.declared.cells.Axis.TheVariants.{Row, Col};
 ghost use Rattle.namespace_id.specs.Cells.{is_width, is_in_square};
 ghost use Rattle.data_header.specs.Headers.{Roots};
 ghost use Rattle.axis_roots.specs.Messages.{index as index_of};
-ghost use Rattle.axis_roots.specs.Grids.{share_at};
-ghost use Rattle.repair_queue.specs.Slots.{IsApart, IsAlike};
-ghost use Rattle.repair_queue.specs.Counts.{count_of, pending};
 ghost use Rattle.repair_queue.specs.Pools.{slot_in};
 ghost use Rattle.repair_queue.specs.Boards.{mark_of, is_lined, is_found, given_of, decided_of, shared_of, share_of_first, found_share, AreParts, IsGood};
 

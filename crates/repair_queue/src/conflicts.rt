@@ -1,13 +1,11 @@
 //! What is wrong where two shares of one cell are known.
 
 ghost use Rattle.std.specs.Prelude.{◌≡◌, ◌≢◌, ℕ, ◌*◌, ◌<◌, List, length, true, IsTrue, Some};
-ghost use Rattle.std.specs.List.{AllByRecursion};
 ghost use Rattle.namespace_id.specs.Cells.{is_width, is_in_square, leaf_namespace};
 ghost use Rattle.nmt_proofs.specs.Clashes.{clash_at};
 ghost use Rattle.axis_roots.specs.declared.message.messages.Message.{Message as Sent};
 ghost use Rattle.axis_roots.specs.Proved.{IsUnder, kept_message};
 ghost use Rattle.axis_roots.specs.Own.{opened_by};
-ghost use Rattle.axis_roots.specs.Lines.{cell_on, entry};
 ghost use Rattle.befp_maker.specs.Conflicts.{IsLineOf, IsAgainst};
 ghost use Rattle.repair_queue.specs.Closures.{Fact};
 ghost use Rattle.repair_queue.specs.Lines.{AreFacts};

@@ -36,13 +36,15 @@ pub(crate) fn gather(
     known.clear();
     given.clear();
     for pos in 0..2 * header.k {
-        if known.len() < header.k as usize {
-            if let Some(share) = known_share(board, cell_on(axis, index, pos)) {
-                known.push(pos).unwrap();
-                given.push(*share).unwrap();
+        if let Some(share) = known_share(board, cell_on(axis, index, pos)) {
+            known.push(pos).unwrap();
+            given.push(*share).unwrap();
+            if known.len() == header.k as usize {
+                return;
             }
         }
     }
+    unreachable!()
 }
 
 /// The codeword with these shares at k positions. Where these are the originals the recovery shares

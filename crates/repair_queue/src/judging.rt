@@ -1,8 +1,7 @@
 //! Deciding a row or a column of which k cells are known.
 
-ghost use Rattle.std.specs.Prelude.{◌≡◌, ◌≢◌, ℕ, ◌*◌, ◌<◌, ◌≤◌, List, length, true, false, IsTrue, IsNone, IfSome, Some, Option, ◌↔◌};
+ghost use Rattle.std.specs.Prelude.{◌≡◌, ◌≢◌, ℕ, ◌*◌, ◌<◌, ◌≤◌, List, length, true, false, IsTrue, IsNone, Some, Option, ◌↔◌};
 ghost use Rattle.namespace_id.specs.Cells.{is_in_square};
-ghost use Rattle.namespace_id.specs.declared.cells.Axis.{Axis as Along};
 ghost use Rattle.namespace_id.specs.declared.shares.Share.{Share as Block};
 ghost use Rattle.data_header.specs.Headers.{root_of};
 ghost use Rattle.axis_roots.specs.declared.message.messages.Message.{Message};

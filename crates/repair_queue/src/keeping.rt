@@ -44,13 +44,13 @@ fn count_line(pool: &Pool, marks: &Marks, counts: &mut Counts, axis: Axis, index
 }
 
 /// Writes the digests of the leaves over a line.
-fn write_leaves(k: u16, leaves: &mut [Digest], axis: Axis, index: u16, digests: &[Digest])
+fn write_leaves(k: u16, leaves: &mut Vec<Digest>, axis: Axis, index: u16, digests: &[Digest])
     requires width { IsTrue (is_width k) }
     requires index { index < 2 * k }
-    requires leaves { length leaves.old ≡ 2 * k * (2 * k) }
+    requires leaves { length leaves.old.items ≡ 2 * k * (2 * k) }
     requires digests { length digests.now ≡ 2 * k }
-    ensures written { AreWrittenLeaves k leaves.old leaves.new axis index digests.now }
-    ensures count { length leaves.new ≡ length leaves.old }
+    ensures written { AreWrittenLeaves k leaves.old.items leaves.new.items axis index digests.now (2 * k) }
+    ensures count { length leaves.new.items ≡ length leaves.old.items }
 {
     for pos in 0..2 * k {
         leaves[number(k, cell_on(axis, index, pos))] = digests[pos as usize];
@@ -97,6 +97,7 @@ fn write_line(marks: &Marks, grid: &mut Grid, axis: Axis, index: u16, line: &[Sh
 }
 
 /// Takes the samples of a cell out.
+#[tactic(auto, using(crate::proofs::Lines::ClearLemmas::both_emptied))]
 fn clear_cell(pool: &mut Pool, cell: Cell)
     requires cell { is_in_square pool.old.places.k cell ≡ true }
     ensures width { pool.new.places.k ≡ pool.old.places.k }
@@ -122,33 +123,6 @@ fn clear_line(pool: &mut Pool, k: u16, axis: Axis, index: u16)
     }
 }
 
-/// Keeps the shares and the digests of a row or a column, and that it is decided.
-fn keep_shares(
-    board: &mut Board,
-    header: &Header,
-    axis: Axis,
-    index: u16,
-    line: &[Share],
-    digests: &[Digest],
-)
-    requires good { IsGood header.now board.old }
-    requires index { index < 2 * header.now.k }
-    requires off { decided_of board.old axis index ≡ false }
-    requires line { IsLineOf header.now axis index line.now }
-    requires alike { IsAlikeAll header.now.k (given_of board.old) (decided_of board.old)
-        (shared_of board.old) axis index line.now }
-    requires digests { digests.now ≡ line_leaves header.now.k axis index line.now }
-    ensures kept { IsLineKept header.now board.old board.new axis index line.now }
-    ensures next { board.new.counts.next ≡ board.old.counts.next }
-    ensures flagged { IsFlagged (decided_of board.old) (decided_of board.new) axis index }
-    ensures pool { board.new.pool ≡ board.old.pool }
-{
-    count_line(&board.pool, &board.marks, &mut board.counts, axis, index);
-    write_line(&board.marks, &mut board.grid, axis, index, line);
-    write_leaves(header.k, &mut board.leaves, axis, index, digests);
-    board.marks.set(axis, index);
-}
-
 /// Keeps the line of a row or a column as decided. No sample of its cells is needed any more.
 pub(crate) fn keep_line(
     board: &mut Board,
@@ -170,6 +144,9 @@ pub(crate) fn keep_line(
     ensures flagged { IsFlagged (decided_of board.old) (decided_of board.new) axis index }
     ensures room { StaysRoomy board.old.pool board.new.pool }
 {
-    keep_shares(board, header, axis, index, line, digests);
+    count_line(&board.pool, &board.marks, &mut board.counts, axis, index);
+    write_line(&board.marks, &mut board.grid, axis, index, line);
+    write_leaves(header.k, &mut board.leaves, axis, index, digests);
+    board.marks.set(axis, index);
     clear_line(&mut board.pool, header.k, axis, index);
 }

@@ -1,6 +1,6 @@
 //! Repair of a whole square.
 
-ghost use Rattle.std.specs.Prelude.{◌≡◌, ◌⊎◌, ◌++◌, List, IfOk, map};
+ghost use Rattle.std.specs.Prelude.{◌⊎◌, List, IfOk, map};
 ghost use Rattle.std.specs.List.{AllByRecursion};
 ghost use Rattle.square_layout.specs.Blocks.{SquareShares};
 ghost use Rattle.axis_roots.specs.declared.message.messages.Message.{Message as Sent};
@@ -9,7 +9,6 @@ ghost use Rattle.axis_roots.specs.Grids.{IsHeaderOf};
 ghost use Rattle.repair_queue.specs.Closures.{Covers};
 ghost use Rattle.repair_queue.specs.Verdicts.{VerdictParts, IsVerdict, IsOwnVerdict, AreAlike};
 ghost use Rattle.repair_queue.specs.Answers.{verdict_parts, SomeNames};
-ghost use Rattle.repair_queue.specs.SessionParts.{SessionStands};
 
 use crate::Verdict;
 use crate::fed::Session;
@@ -17,29 +16,6 @@ use axis_roots::Proved;
 use data_header::Header;
 use namespace_id::NoMemory;
 use std::alloc::Global;
-
-/// Feeds a session with the samples of a list, in their order.
-fn feed_list(session: &mut Session, messages: Vec<Proved>)
-    requires under { AllByRecursion (IsUnder session.old.header) messages.items }
-    ensures header { session.new.header ≡ session.old.header }
-    ensures stands { (ms : List Sent) → SessionStands session.old ms →
-        SessionStands session.new (ms ++ map kept_message messages.items) }
-{
-    for message in messages {
-        session.feed(message);
-    }
-}
-
-/// What a repair answers.
-fn repaired(alloc: Global, header: &Header, messages: Vec<Proved>) -> Result<Verdict, NoMemory>
-    requires under { AllByRecursion (IsUnder header.now) messages.items }
-    ensures { IfOk result (λ verdict.
-        IsVerdict header.now (map kept_message messages.items) (verdict_parts verdict)) }
-{
-    let mut session = Session::new(alloc, header)?;
-    feed_list(&mut session, messages);
-    Ok(session.finish())
-}
 
 /// Repairs the square of a data availability header from proved samples: answers a square with that
 /// header; or a fraud proof; or exactly the cells that the samples leave unknown, where each row
@@ -74,5 +50,9 @@ pub fn repair_list(
         Covers header.now others (map kept_message messages.items) →
         IsVerdict header.now others other → AreAlike (verdict_parts verdict) other) }
 {
-    repaired(alloc, header, messages)
+    let mut session = Session::new(alloc, header)?;
+    for message in messages {
+        session.feed(message);
+    }
+    Ok(session.finish())
 }

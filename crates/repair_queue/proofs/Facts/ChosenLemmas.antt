@@ -1,8 +1,8 @@
 -- k positions of a row or a column, and the codeword through their shares.
-use Rattle.std.proofs.Common.{◌≡◌, ◌∙◌, ℕ, zero, suc, ◌+◌, ◌-◌, ◌*◌, ◌<◌, ◌≤◌, List, [], ◌∷◌, ◌++◌, length, get_or, Bool, true, refl, sym, ap, subst, arith, IsTrue, length-append, inl, inr}
+use Rattle.std.proofs.Common.{◌≡◌, ◌∙◌, ℕ, zero, suc, ◌-◌, ◌*◌, ◌<◌, ◌≤◌, List, [], ◌∷◌, ◌++◌, length, get_or, Bool, true, refl, sym, ap, subst, arith, IsTrue, length-append, inl, inr}
 use Rattle.std.specs.Prelude.{Some, nat_lt, if◌then◌else◌}
 use Rattle.std.specs.List.{Contains, list_all}
-use Rattle.std.proofs.lemmas.Bool.{cases_Bool, and_from}
+use Rattle.std.proofs.lemmas.Bool.{cases_Bool, and_from, and_parts}
 use Rattle.std.proofs.lemmas.Bool.Decides.{nat_tests}
 use Rattle.std.proofs.lemmas.List.{get_or_default}
 use Rattle.std.proofs.lemmas.Option.{slice_get-get_or, get_or_from_slice_get}
@@ -20,6 +20,7 @@ use Rattle.befp_maker.specs.Conflicts.{positions_with}
 use Rattle.repair_queue.specs.Closures.{AreChosen}
 use Rattle.namespace_id.proofs.MemberLemmas.{contains_head, contains_tail}
 use Rattle.namespace_id.proofs.AscentLemmas.{along_then}
+use Rattle.namespace_id.proofs.RoomLemmas.{all_next}
 
 -- a number of a list that stands at a place of it
 at_place : (chosen : List ℕ) (i : ℕ) → i < length chosen → Contains chosen (get_or chosen i 0)
@@ -34,15 +35,14 @@ chosen-lt k chosen are p (i, h, e) =
 pub first_chosen : (k : ℕ) → AreChosen k (ascending 0 k)
 first_chosen k = record { count = length-ascending k 0; positions = first_positions k }
 
--- a position behind some ascending ones: all are below a bound above it
-below_then : (n first pos high : ℕ) → first + n ≤ pos → pos < high → list_all (λ p. nat_lt p high) (ascending first n ++ pos ∷ []) ≡ true
-unfolding ascending
-below_then zero first pos high before below =
-    let here : nat_lt pos high ≡ true = grind (arith, nat_tests) in and_from (nat_lt pos high) true here refl
-below_then (suc n) first pos high before below =
-    let here : nat_lt first high ≡ true = grind (arith, nat_tests) in
-    and_from (nat_lt first high) (list_all (λ p. nat_lt p high) (ascending (suc first) n ++ pos ∷ [])) here
-    (below_then n (suc first) pos high (omega arith) below)
+-- numbers below one are below a greater one
+pub below_most : (n m : ℕ) (known : List ℕ) → n ≤ m → list_all (λ p. nat_lt p n) known ≡ true → list_all (λ p. nat_lt p m) known ≡ true
+below_most n m [] le e = refl
+below_most n m (p ∷ known) le e =
+    let both = and_parts (nat_lt p n) (list_all (λ q. nat_lt q n) known) e in
+    let low : nat_lt p n ≡ true = both.0 in
+    let here : nat_lt p m ≡ true = grind (arith, nat_tests) in
+    and_from (nat_lt p m) (list_all (λ q. nat_lt q m) known) here (below_most n m known le both.1)
 
 -- a position and the first k - 1 others may be chosen
 pub with_chosen : (k pos : ℕ) → 0 < k → pos < 2 * k → AreChosen k (positions_with k pos)
@@ -51,10 +51,13 @@ with_chosen k pos some below = elim (cases_Bool (nat_lt pos k)) [
   | inl among ↦ subst (λ (b : Bool). AreChosen k (if b then ascending 0 k else ascending 0 (k - 1) ++ pos ∷ [])) (sym among) (first_chosen k)
   | inr behind ↦
       let past : k ≤ pos = grind (arith, nat_tests) in
+      let here : nat_lt pos (2 * k) ≡ true = grind (arith, nat_tests) in
+      let first = and_parts (list_all (λ p. nat_lt p (2 * (k - 1))) (ascending 0 (k - 1))) (holds_along nat_lt (ascending 0 (k - 1))) (first_positions (k - 1)) in
       let chosen : AreChosen k (ascending 0 (k - 1) ++ pos ∷ []) = record {
         count = omega (arith, length-append (ascending 0 (k - 1)) (pos ∷ []), length-ascending (k - 1) 0);
         positions = and_from (list_all (λ p. nat_lt p (2 * k)) (ascending 0 (k - 1) ++ pos ∷ [])) (holds_along nat_lt (ascending 0 (k - 1) ++ pos ∷ []))
-            (below_then (k - 1) 0 pos (2 * k) (omega arith) below) (along_then (k - 1) 0 pos (omega arith));
+            (all_next (λ p. nat_lt p (2 * k)) (ascending 0 (k - 1)) pos (below_most (2 * (k - 1)) (2 * k) (ascending 0 (k - 1)) (omega arith) first.0) here)
+            (along_then (k - 1) 0 pos (omega arith));
       } in
       subst (λ (b : Bool). AreChosen k (if b then ascending 0 k else ascending 0 (k - 1) ++ pos ∷ [])) (sym behind) chosen
 ]

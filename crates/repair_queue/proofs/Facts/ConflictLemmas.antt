@@ -1,7 +1,6 @@
 -- A fact against a line of facts: a fraud, or a collision that is found.
-use Rattle.std.proofs.Common.{◌≡◌, ◌∙◌, ℕ, ◌*◌, ◌<◌, List, [], ◌∷◌, sym, ap, subst, inl, inr}
+use Rattle.std.proofs.Common.{◌≡◌, ◌∙◌, ℕ, ◌*◌, ◌<◌, List, sym, ap, subst, inl, inr}
 use Rattle.std.specs.Prelude.{Some}
-use Rattle.std.specs.List.{AllByRecursion}
 use Rattle.std.proofs.lemmas.Bool.{cases_eq}
 use Rattle.namespace_id.specs.declared.cells.Cell.{Cell}
 use Rattle.namespace_id.specs.declared.cells.Axis.{Axis}
@@ -19,8 +18,8 @@ use Rattle.axis_roots.specs.Claims.{ProofParts}
 use Rattle.axis_roots.proofs.Grids.AxisLemmas.{cell_on-own}
 use Rattle.axis_roots.proofs.Grids.HeaderLemmas.{some_if}
 use Rattle.axis_roots.proofs.Grids.NumberLemmas.{index-lt, position-lt}
+use Rattle.axis_roots.proofs.Messages.SetLemmas.{each_by}
 use Rattle.befp_maker.specs.Conflicts.{IsLineOf, IsAgainst, positions_with, IsThroughOther, IsMessageOf, IsProofAgainst, IsClashAgainst}
-use Rattle.repair_queue.specs.Lines.{AreFacts}
 use Rattle.repair_queue.specs.Closures.{AreChosen, Fact, rebuilt}
 use Rattle.repair_queue.specs.Lines.{AreFacts}
 use Rattle.repair_queue.specs.Verdicts.{IsFraud, of_line, IsFoundClash}
@@ -40,26 +39,16 @@ root_from_strict header axis i line e =
 
 -- ---- a fraud
 
--- the samples of such a proof are facts
-messages_facts : (header : Roots) (ms : List Message) (axis : Axis) (i : ℕ) (line : List Share) (other : Proved) → AreFacts header ms axis i line
-    → IsFactOf header ms other → (cells : List Message) → AllByRecursion (IsMessageOf header.k axis i line (kept_message other)) cells
-    → AllByRecursion (λ m. Fact header ms m.cell m.share) cells
-messages_facts header ms axis i line other facts fact [] of = tt
-messages_facts header ms axis i line other facts fact (m ∷ cells) (inl is, rest) = (
-  subst (λ (x : Message). Fact header ms x.cell x.share) (sym is) fact,
-  messages_facts header ms axis i line other facts fact cells rest,
-)
-messages_facts header ms axis i line other facts fact (m ∷ cells) (inr (pos, below, cell, share), rest) = (
-  subst (λ (c : Cell). Fact header ms c m.share) (sym cell) (subst (Fact header ms (cell_on axis i pos)) (sym share) (facts pos below)),
-  messages_facts header ms axis i line other facts fact cells rest,
-)
-
 -- the fraud proof of a fact against a line of facts is a fraud
 pub against_fraud : (header : Roots) (ms : List Message) (axis : Axis) (i : ℕ) (line : List Share) (other : Proved) (proof : ProofParts)
     → IsProofAgainst header axis i line other proof → AreFacts header ms axis i line → IsFactOf header ms other → IsFraud header ms proof.claim
 against_fraud header ms axis i line other proof is facts fact = record {
   accepts = is.accepts;
-  facts = messages_facts header ms axis i line other facts fact proof.claim.cells is.messages;
+  facts = each_by (IsMessageOf header.k axis i line (kept_message other)) (λ m. Fact header ms m.cell m.share) proof.claim.cells (λ m of. elim of [
+    | inl same ↦ subst (λ (n : Message). Fact header ms n.cell n.share) (sym same) fact
+    | inr (pos, below, cell, share) ↦
+        subst (λ (c : Cell). Fact header ms c m.share) (sym cell) (subst (Fact header ms (cell_on axis i pos)) (sym share) (facts pos below))
+  ]) is.messages;
 }
 
 -- ---- a collision

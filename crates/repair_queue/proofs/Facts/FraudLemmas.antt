@@ -1,15 +1,12 @@
 -- Accepted claims of facts: the row or column that one accuses is not settled.
-use Rattle.std.proofs.Common.{◌≡◌, ◌∙◌, ℕ, suc, ◌*◌, ◌<◌, List, [], ◌∷◌, map, true, ◌==◌, refl, sym, ap, subst, inl, inr, arith}
-use Rattle.std.specs.Prelude.{nat_lt}
+use Rattle.std.proofs.Common.{◌≡◌, ◌∙◌, ℕ, suc, List, [], ◌∷◌, map, true, ◌==◌, sym, ap, subst, inl, inr, arith}
 use Rattle.std.specs.List.{AllByRecursion, Contains, list_all}
-use Rattle.std.proofs.lemmas.Bool.{and_parts, and_from}
+use Rattle.std.proofs.lemmas.Bool.{and_parts}
 use Rattle.std.proofs.lemmas.Bool.Decides.{nat_tests}
 use Rattle.std.proofs.lemmas.List.{length-map}
 use Rattle.std.proofs.lemmas.Option.{get_or_from_slice_get}
 use Rattle.namespace_id.specs.declared.cells.Axis.{Axis}
 use Rattle.namespace_id.specs.declared.shares.Share.{Share}
-use Rattle.namespace_id.specs.Cells.{is_in_square}
-use Rattle.namespace_id.specs.Lists.{holds_along}
 use Rattle.leopard_code.specs.Codewords.{HasEntries}
 use Rattle.data_header.specs.Headers.{Roots}
 use Rattle.axis_roots.specs.declared.message.messages.Message.{Message}
@@ -17,8 +14,7 @@ use Rattle.axis_roots.specs.Messages.{position, index}
 use Rattle.axis_roots.specs.Lines.{blank, cell_on, line_strict_root, entry}
 use Rattle.axis_roots.specs.Claims.{ClaimParts, positions_of, ShowsBad, claimed_root}
 use Rattle.axis_roots.proofs.Grids.AxisLemmas.{cell_on-own}
-use Rattle.axis_roots.proofs.Grids.NumberLemmas.{position-lt}
-use Rattle.axis_roots.proofs.Messages.ClaimLemmas.{are_inside, Shape, shape_of}
+use Rattle.axis_roots.proofs.Messages.ClaimLemmas.{Shape, shape_of, positions_fit}
 use Rattle.axis_roots.proofs.Messages.SetLemmas.{claim_inside}
 use Rattle.repair_queue.specs.Closures.{AreChosen, Fact, IsDecided}
 use Rattle.repair_queue.specs.Settled.{IsLineSettled, IsSettled}
@@ -26,25 +22,6 @@ use Rattle.repair_queue.specs.Verdicts.{IsFraud}
 use Rattle.namespace_id.proofs.MemberLemmas.{contains_none, contains_cons}
 use Rattle.repair_queue.proofs.Facts.ClosureLemmas.{fact_half}
 use Rattle.repair_queue.proofs.Facts.SettledLemmas.{settled_word}
-
--- samples of cells in the square have positions below 2k
-positions_below : (header : Roots) (axis : Axis) (cells : List Message) → are_inside header.k cells ≡ true
-    → list_all (λ pos. nat_lt pos (2 * header.k)) (map (λ m. position axis m.cell) cells) ≡ true
-positions_below header axis [] inside = refl
-positions_below header axis (m ∷ cells) inside =
-    let both = and_parts (is_in_square header.k m.cell) (are_inside header.k cells) inside in
-    let below : position axis m.cell < 2 * header.k = position-lt header.k axis m.cell both.0 in
-    let here : nat_lt (position axis m.cell) (2 * header.k) ≡ true = grind (arith, nat_tests) in
-    and_from (nat_lt (position axis m.cell) (2 * header.k)) (list_all (λ pos. nat_lt pos (2 * header.k)) (map (λ n. position axis n.cell) cells)) here
-    (positions_below header axis cells both.1)
-
--- the positions of a claim's cells, which are in the square, are k positions
-pub claim_chosen : (header : Roots) (claim : ClaimParts) → are_inside header.k claim.cells ≡ true → Shape header.k claim → AreChosen header.k (positions_of claim)
-claim_chosen header claim inside shape = record {
-  count = length-map claim.cells (λ m. position claim.axis m.cell) ∙ shape.count;
-  positions = and_from (list_all (λ pos. nat_lt pos (2 * header.k)) (positions_of claim)) (holds_along nat_lt (positions_of claim))
-      (positions_below header claim.axis claim.cells inside) shape.rising;
-}
 
 -- at the positions of samples that are facts stand facts
 pub facts_there : (header : Roots) (ms : List Message) (axis : Axis) (i : ℕ) (cells : List Message) (word : List Share)
@@ -72,7 +49,10 @@ pub fraud_unsettled : (header : Roots) (ms : List Message) (claim : ClaimParts) 
 fraud_unsettled header ms claim fraud settled =
     let bad : ShowsBad header.k claim (claimed_root header claim) = fraud.accepts.bad in
     let shape : Shape header.k claim = shape_of header.k claim bad.shape in
-    let are : AreChosen header.k (positions_of claim) = claim_chosen header claim (claim_inside header claim fraud.accepts.set_shape fraud.accepts.proved) shape in
+    let are : AreChosen header.k (positions_of claim) = record {
+      count = length-map claim.cells (λ m. position claim.axis m.cell) ∙ shape.count;
+      positions = positions_fit header.k claim shape (claim_inside header claim fraud.accepts.set_shape fraud.accepts.proved);
+    } in
     let known : (p : ℕ) → Contains (positions_of claim) p → Fact header ms (cell_on claim.axis claim.index p) (entry bad.word p) =
     facts_there header ms claim.axis claim.index claim.cells bad.word shape.on fraud.facts bad.through.entries in
     let d : IsDecided header ms claim.axis claim.index = record {

@@ -1,6 +1,5 @@
 -- Only the proved samples of a list count, and a fraud or a collision stays one when samples are added.
-use Rattle.std.proofs.Common.{ℕ, List, [], ◌∷◌}
-use Rattle.std.specs.List.{AllByRecursion}
+use Rattle.std.proofs.Common.{ℕ, List}
 use Rattle.namespace_id.specs.declared.cells.Axis.{Axis}
 use Rattle.nmt_proofs.specs.Parts.{Part}
 use Rattle.data_header.specs.Headers.{Roots}
@@ -8,20 +7,19 @@ use Rattle.axis_roots.specs.declared.message.messages.Message.{Message}
 use Rattle.axis_roots.specs.Lines.{cell_on, entry}
 use Rattle.axis_roots.specs.Grids.{share_at}
 use Rattle.axis_roots.specs.Claims.{ClaimParts}
+use Rattle.axis_roots.proofs.Messages.SetLemmas.{each_by}
 use Rattle.repair_queue.specs.Closures.{Fact, IsDecided, Covers}
 use Rattle.repair_queue.specs.Settled.{IsLineSettled, IsSettled}
 use Rattle.repair_queue.specs.Verdicts.{VerdictParts, whole, missing, fraud, clash, IsFraud, IsKnownTree, of_message, of_line, IsFoundClash, IsVerdict}
 use Rattle.repair_queue.proofs.Facts.ClosureLemmas.{half_grows, fact_grows}
 
--- facts of samples grow
-facts_grow : (header : Roots) (ms others : List Message) → Covers header ms others → (cells : List Message)
-    → AllByRecursion (λ m. Fact header ms m.cell m.share) cells → AllByRecursion (λ m. Fact header others m.cell m.share) cells
-facts_grow header ms others covers [] facts = tt
-facts_grow header ms others covers (m ∷ cells) facts = (fact_grows header ms others covers m.cell m.share facts.0, facts_grow header ms others covers cells facts.1)
-
--- so does a fraud
+-- a fraud stays one
 pub fraud_grows : (header : Roots) (ms others : List Message) (claim : ClaimParts) → Covers header ms others → IsFraud header ms claim → IsFraud header others claim
-fraud_grows header ms others claim covers f = record { accepts = f.accepts; facts = facts_grow header ms others covers claim.cells f.facts }
+fraud_grows header ms others claim covers f = record {
+  accepts = f.accepts;
+  facts = each_by (λ m. Fact header ms m.cell m.share) (λ m. Fact header others m.cell m.share) claim.cells
+      (λ m. fact_grows header ms others covers m.cell m.share) f.facts;
+}
 
 -- what is known of a row or a column
 tree_grows : (header : Roots) (ms others : List Message) → Covers header ms others → (axis : Axis) (i : ℕ) (part : Part)
@@ -45,16 +43,20 @@ clash_grows header ms others left right covers c = record {
   found = c.found;
 }
 
+-- a row or a column stays decided
+pub decided_grows : (header : Roots) (ms others : List Message) (axis : Axis) (i : ℕ) → Covers header ms others → IsDecided header ms axis i
+    → IsDecided header others axis i
+decided_grows header ms others axis i covers d = record {
+  within = d.within;
+  chosen = d.chosen;
+  are_chosen = d.are_chosen;
+  halves = λ p at. half_grows header ms others covers (cell_on axis i p) (d.halves p at);
+}
+
 -- with the same proved samples a list is settled too
 pub settled_same : (header : Roots) (ms others : List Message) → Covers header ms others → Covers header others ms → IsSettled header ms → IsSettled header others
 settled_same header ms others to from settled axis i d =
-    let there : IsDecided header ms axis i = record {
-      within = d.within;
-      chosen = d.chosen;
-      are_chosen = d.are_chosen;
-      halves = λ p at. half_grows header others ms from (cell_on axis i p) (d.halves p at);
-    } in
-    let x : IsLineSettled header ms axis i = settled axis i there in
+    let x : IsLineSettled header ms axis i = settled axis i (decided_grows header others ms axis i from d) in
     record {
       shares = x.shares;
       count = x.count;

@@ -1,9 +1,8 @@
 -- Where no sample is proved nothing is recoverable, and all cells are missing.
-use Rattle.std.proofs.Common.{◌≡◌, ℕ, ◌*◌, ◌<◌, List, true, nat_lt, refl, subst, arith}
+use Rattle.std.proofs.Common.{◌≡◌, ◌*◌, ◌<◌, List, true, nat_lt, refl, subst, arith}
 use Rattle.std.specs.List.{Contains}
 use Rattle.std.proofs.lemmas.Bool.{lt-ltb, and_from}
 use Rattle.namespace_id.specs.declared.cells.Cell.{Cell}
-use Rattle.namespace_id.specs.declared.cells.Axis.{Axis}
 use Rattle.namespace_id.specs.Cells.{is_width, all_cells}
 use Rattle.namespace_id.proofs.AllCellsLemmas.{are_all_cells, all_member}
 use Rattle.namespace_id.proofs.WidthLemmas.{is_width-pos}
@@ -11,7 +10,7 @@ use Rattle.data_header.specs.Headers.{Roots}
 use Rattle.axis_roots.specs.declared.message.messages.Message.{Message}
 use Rattle.axis_roots.specs.Openings.{IsProved}
 use Rattle.axis_roots.specs.Lines.{cell_on}
-use Rattle.repair_queue.specs.Closures.{Half, IsDecided}
+use Rattle.repair_queue.specs.Closures.{Half}
 use Rattle.repair_queue.specs.Verdicts.{missing, IsVerdict}
 use Rattle.repair_queue.proofs.Facts.ClosureLemmas.{half_least}
 use Rattle.repair_queue.proofs.Facts.ChosenLemmas.{some_chosen}
@@ -22,17 +21,14 @@ module _ (header : Roots) (ms : List Message) (lies : (m : Message) → Contains
   nothing_half = half_least header ms (λ cell. ⊥) lies
       (λ axis i chosen pos within are none below. let one = some_chosen header.k chosen (omega (arith, within)) are in none one.0 one.1)
 
-  -- so no row and no column is decided
-  nothing_decided : (axis : Axis) (i : ℕ) → IsDecided header ms axis i → ⊥
-  nothing_decided axis i d =
-      let below : i < 2 * header.k = d.within in
-      let one = some_chosen header.k d.chosen (omega (arith, below)) d.are_chosen in nothing_half (cell_on axis i one.0) (d.halves one.0 one.1)
-
 -- and all cells of the square are missing
 pub all_missing : (header : Roots) (ms : List Message) → is_width header.k ≡ true → ((m : Message) → Contains ms m → IsProved header m → ⊥)
     → IsVerdict header ms (missing (record { k = header.k; list = all_cells header.k }))
 all_missing header ms width lies = record {
-  settled = λ axis i d. absurd (nothing_decided header ms lies axis i d);
+  settled = λ axis i d.
+      let below : i < 2 * header.k = d.within in
+      let one = some_chosen header.k d.chosen (omega (arith, below)) d.are_chosen in
+      absurd (nothing_half header ms lies (cell_on axis i one.0) (d.halves one.0 one.1));
   width = refl;
   row_major = are_all_cells header.k width;
   some = λ none.

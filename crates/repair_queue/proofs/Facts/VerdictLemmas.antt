@@ -1,14 +1,13 @@
 -- Whole, missing and fraud exclude one another, and whole and missing have one value.
-use Rattle.std.proofs.Common.{◌≡◌, ◌∙◌, ℕ, ◌*◌, ◌<◌, List, [], ◌∷◌, length, true, ◌&&◌, refl, sym, ap, arith}
-use Rattle.std.specs.List.{Contains, list_all}
-use Rattle.std.proofs.lemmas.Bool.{and_parts}
+use Rattle.std.proofs.Common.{◌≡◌, ◌∙◌, ℕ, ◌*◌, ◌<◌, List, [], ◌∷◌, length, true, refl, sym, ap, subst, arith}
+use Rattle.std.specs.List.{Contains}
 use Rattle.std.proofs.lemmas.Bool.Decides.{nat_tests}
 use Rattle.namespace_id.specs.declared.cells.Cell.{Cell}
 use Rattle.namespace_id.specs.declared.cells.Axis.{Axis}
 use Rattle.namespace_id.specs.declared.cells.Axis.TheVariants.{Row}
 use Rattle.namespace_id.specs.declared.shares.Share.{Share}
-use Rattle.namespace_id.specs.Cells.{is_width, is_in_square, is_original, is_before, CellList, AreCells}
-use Rattle.namespace_id.specs.Lists.{holds_along, ascending}
+use Rattle.namespace_id.specs.Cells.{is_in_square, is_original, are_cells, CellList}
+use Rattle.namespace_id.specs.Lists.{ascending}
 use Rattle.data_header.specs.Headers.{Roots}
 use Rattle.square_layout.specs.Blocks.{SquareShares}
 use Rattle.axis_roots.specs.declared.message.messages.Message.{Message}
@@ -23,7 +22,7 @@ use Rattle.repair_queue.specs.Verdicts.{VerdictParts, whole, missing, fraud, cla
 use Rattle.namespace_id.proofs.MemberLemmas.{contains_head}
 use Rattle.repair_queue.proofs.Facts.ChosenLemmas.{first_chosen, chosen-lt}
 use Rattle.repair_queue.proofs.Facts.FraudLemmas.{fraud_unsettled}
-use Rattle.namespace_id.proofs.RowMajorLemmas.{row_major_once}
+use Rattle.namespace_id.proofs.RowMajorLemmas.{cells_once}
 use Rattle.namespace_id.proofs.WidthLemmas.{is_width-pos}
 
 -- ---- one of the three
@@ -84,17 +83,13 @@ one_square header ms square other ws wo =
     (ws.facts cell here) (wo.facts cell here)) in
     λ i. record { k = width i; shares = shares i }
 
--- cells of a square ascend
-cells_rise : (cells : CellList) → AreCells cells → holds_along is_before cells.list ≡ true
-cells_rise cells are = (and_parts (is_width cells.k && list_all (is_in_square cells.k) cells.list) (holds_along is_before cells.list) are).1
-
 -- missing cells are the only ones
 pub one_missing : (header : Roots) (ms : List Message) (cells others : CellList) → IsMissing header ms cells → IsMissing header ms others → cells ≡ others
 one_missing header ms cells others mc mo =
     let width : cells.k ≡ others.k = mc.width ∙ sym mo.width in
     let list : cells.list ≡ others.list =
-    row_major_once cells.list others.list (cells_rise cells mc.row_major) (cells_rise others mo.row_major)
-    (λ c at. (mo.missing c).1 ((mc.missing c).0 at)) (λ c at. (mc.missing c).1 ((mo.missing c).0 at)) in
+    cells_once cells.k cells.list others.list mc.row_major (subst (λ (k : ℕ). are_cells k others.list ≡ true) (sym width) mo.row_major)
+    (λ c. ((λ at. (mo.missing c).1 ((mc.missing c).0 at)), (λ at. (mc.missing c).1 ((mo.missing c).0 at)))) in
     λ i. record { k = width i; list = list i }
 
 -- of one list two answers are alike

@@ -11,7 +11,7 @@ use Rattle.data_header.specs.Headers.{Roots, AreRoots, root_of}
 use Rattle.square_layout.specs.Blocks.{SquareShares, IsSquare}
 use Rattle.axis_roots.specs.declared.message.messages.Message.{Message}
 use Rattle.axis_roots.specs.Lines.{blank, cell_on, line_strict_root}
-use Rattle.axis_roots.specs.Grids.{share_at, axis_shares, Extends, IsHeaderOf}
+use Rattle.axis_roots.specs.Grids.{share_at, axis_shares, Extends}
 use Rattle.axis_roots.proofs.Grids.NumberLemmas.{inside, listed, length-listed, get_or-listed}
 use Rattle.axis_roots.proofs.Grids.AxisLemmas.{is_along}
 use Rattle.axis_roots.proofs.Grids.HeaderLemmas.{header_by_strict}
@@ -81,26 +81,24 @@ module _ (header : Roots) (ms : List Message) (all : (cell : Cell) → is_in_squ
     grid_strict axis i within =
         subst (λ (line : List Share). line_strict_root header.k axis i line ≡ Some (root_of header axis i)) (line_is axis i within) (line_there axis i within).root
 
--- the header is that of the square that the facts hold
-own_header : (header : Roots) (ms : List Message) (square : SquareShares) → AreRoots header → IsSquare square → square.k ≡ header.k
-    → ((cell : Cell) → is_in_square header.k cell ≡ true → Half header ms cell) → IsSettled header ms
-    → ((cell : Cell) → is_original header.k cell ≡ true → Fact header ms cell (share_at header.k square.shares cell)) → IsHeaderOf header square
-own_header header ms square are is width all settled facts =
-    let grid : List Share = facts_grid header ms all in record {
-      whole = is;
-      grid = grid;
-      extends = subst (λ (k : ℕ). Extends k square.shares grid) (sym width) (grid_extends header ms all settled square.shares facts);
-      roots = header_by_strict square.k grid header are (sym width)
-          (subst (λ (k : ℕ). (axis : Axis) (i : ℕ) → i < 2 * k → line_strict_root k axis i (axis_shares k grid axis i) ≡ Some (root_of header axis i)) (sym width)
-          (grid_strict header ms all settled));
-    }
-
--- so this square is whole
+-- the header is that of the square that the facts hold, so this square is whole
 pub whole_square : (header : Roots) (ms : List Message) (square : SquareShares) → AreRoots header → IsSquare square → square.k ≡ header.k
     → ((cell : Cell) → is_in_square header.k cell ≡ true → Half header ms cell) → IsSettled header ms
     → ((cell : Cell) → is_original header.k cell ≡ true → Fact header ms cell (share_at header.k square.shares cell)) → IsWhole header ms square
 whole_square header ms square are is width all settled facts =
-    record { all = all; settled = settled; facts = facts; own = own_header header ms square are is width all settled facts }
+    let grid : List Share = facts_grid header ms all in record {
+      all = all;
+      settled = settled;
+      facts = facts;
+      own = record {
+        whole = is;
+        grid = grid;
+        extends = subst (λ (k : ℕ). Extends k square.shares grid) (sym width) (grid_extends header ms all settled square.shares facts);
+        roots = header_by_strict square.k grid header are (sym width)
+            (subst (λ (k : ℕ). (axis : Axis) (i : ℕ) → i < 2 * k → line_strict_root k axis i (axis_shares k grid axis i) ≡ Some (root_of header axis i)) (sym width)
+            (grid_strict header ms all settled));
+      };
+    }
 
 -- and there is one
 pub whole_there : (header : Roots) (ms : List Message) → AreRoots header → ((cell : Cell) → is_in_square header.k cell ≡ true → Half header ms cell)

@@ -10,7 +10,7 @@ use Rattle.axis_roots.specs.Grids.{share_at}
 use Rattle.axis_roots.proofs.Grids.NumberLemmas.{number-lt}
 use Rattle.axis_roots.proofs.Grids.LaidLemmas.{original-inside}
 use Rattle.repair_queue.specs.Boards.{Shared}
-use Rattle.repair_queue.proofs.UnknownLemmas.{same_cell}
+use Rattle.namespace_id.proofs.BelowLemmas.{same_cell}
 
 -- these are the shares of the cells with lower numbers
 pub record AreSharesBelow (k n : ℕ) (of_cell : Shared) (shares : List Share) : Type 0 where

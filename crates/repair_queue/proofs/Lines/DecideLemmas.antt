@@ -1,6 +1,6 @@
 -- Deciding a row or a column by the known cells that were gathered.
-use Rattle.std.proofs.Common.{◌≡◌, ◌∙◌, ℕ, ◌*◌, ◌<◌, List, length, get_or, cond, Bool, true, false, refl, sym, ap, subst, inl, inr, arith}
-use Rattle.std.specs.Prelude.{Option, Some, None}
+use Rattle.std.proofs.Common.{◌≡◌, ◌∙◌, ℕ, ◌*◌, ◌<◌, List, length, get_or, cond, Bool, true, refl, sym, ap, subst, inl, inr, arith}
+use Rattle.std.specs.Prelude.{◌⊎◌, ◌||◌, Option, Some, None, is_some}
 use Rattle.std.proofs.lemmas.Bool.{cases_Bool}
 use Rattle.std.proofs.lemmas.List.{get_or_default}
 use Rattle.std.proofs.lemmas.Option.{slice_get-get_or, get_or_from_slice_get}
@@ -13,7 +13,6 @@ use Rattle.leopard_code.specs.Codewords.{IsCodeword, HasEntries}
 use Rattle.data_header.specs.Headers.{Roots}
 use Rattle.axis_roots.specs.declared.message.messages.Message.{Message}
 use Rattle.axis_roots.specs.declared.message.proved.Proved.{Proved}
-use Rattle.axis_roots.specs.Proved.{kept_message}
 use Rattle.axis_roots.specs.Lines.{blank, entry, cell_on}
 use Rattle.axis_roots.proofs.Grids.WrittenLemmas.{on_axis_in_square}
 use Rattle.repair_queue.specs.declared.boards.Board.{Board}
@@ -22,13 +21,18 @@ use Rattle.repair_queue.specs.declared.ending.Ended.{Ended}
 use Rattle.repair_queue.specs.Closures.{AreChosen, Fact, rebuilt}
 use Rattle.repair_queue.specs.Slots.{Kept, Flags}
 use Rattle.repair_queue.specs.Lines.{AreFacts}
+use Rattle.repair_queue.specs.Repairs.{Shows}
 use Rattle.repair_queue.specs.Boards.{Shared, is_lined, is_found, share_of_first, found_share, IsSound, Stands, HoldsFor}
 use Rattle.repair_queue.specs.Tools.{AreGathered}
 use Rattle.repair_queue.specs.Moves.{SettlesLine, DecidesLine}
 use Rattle.repair_queue.proofs.Facts.ChosenLemmas.{chosen-lt}
-use Rattle.repair_queue.proofs.Lines.LinedLemmas.{found_how}
 use Rattle.repair_queue.proofs.Feeding.AtRestLemmas.{lined_fact, shown_fact}
-use Rattle.repair_queue.proofs.Places.TakeFromLemmas.{message_or_not}
+
+-- the first of two samples shows the first share
+first_shown : (row col : Option Proved) → (is_some row || is_some col) ≡ true → Shows row (share_of_first row col) ⊎ Shows col (share_of_first row col)
+first_shown (Some kept) col e = inl (record { kept = kept; held = refl; share_is = refl })
+first_shown None (Some kept) e = inr (record { kept = kept; held = refl; share_is = refl })
+first_shown None None e = absurd cc
 
 module _ (header : Roots) (ms : List Message) (slot : Kept) (flag : Flags) (shares : Shared) (sound : IsSound header slot flag shares) (stand : Stands header ms slot flag shares) where
   -- the share that is known of a cell is a fact
@@ -39,21 +43,10 @@ module _ (header : Roots) (ms : List Message) (slot : Kept) (flag : Flags) (shar
         (lined_fact header ms slot flag shares sound stand cell inside on)
     | inr off ↦
         subst (Fact header ms cell) (sym (ap (λ (b : Bool). cond b (shares cell) (share_of_first (slot Row cell) (slot Col cell))) off))
-        (elim (message_or_not (slot Row cell)) [
-          | inl (kept, e) ↦
-              subst (λ (s : Option Proved). Fact header ms cell (share_of_first s (slot Col cell))) (sym e)
-              (shown_fact header ms slot flag shares sound stand Row cell (kept_message kept).share off (record { kept = kept; held = e; share_is = refl }))
-          | inr none ↦ elim (message_or_not (slot Col cell)) [
-            | inl (kept, e) ↦
-                subst (λ (s : Option Proved). Fact header ms cell (share_of_first s (slot Col cell))) (sym none)
-                (subst (λ (s : Option Proved). Fact header ms cell (share_of_first None s)) (sym e)
-                (shown_fact header ms slot flag shares sound stand Col cell (kept_message kept).share off (record { kept = kept; held = e; share_is = refl })))
-            | inr empty ↦ elim (found_how slot flag cell found) [
-              | inl on ↦ absurd (let e : true ≡ false = sym on ∙ off in cc)
-              | inr (Row, kept, e) ↦ let no : None ≡ Some kept = sym none ∙ e in absurd cc
-              | inr (Col, kept, e) ↦ let no : None ≡ Some kept = sym empty ∙ e in absurd cc
-            ]
-          ]
+        (elim (first_shown (slot Row cell) (slot Col cell)
+        (sym (ap (λ (b : Bool). b || is_some (slot Row cell) || is_some (slot Col cell)) off) ∙ found)) [
+          | inl row ↦ shown_fact header ms slot flag shares sound stand Row cell (share_of_first (slot Row cell) (slot Col cell)) off row
+          | inr col ↦ shown_fact header ms slot flag shares sound stand Col cell (share_of_first (slot Row cell) (slot Col cell)) off col
         ])
   ]
 

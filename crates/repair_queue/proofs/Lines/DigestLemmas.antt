@@ -1,10 +1,9 @@
 -- The digests of the leaves over a line, one after another.
-use Rattle.std.proofs.Common.{◌≡◌, ◌∙◌, ℕ, ◌+◌, ◌-◌, ◌*◌, ◌<◌, ◌≤◌, List, length, get_or, set, take, drop, sym, ap, ap₂, inl, inr, arith}
+use Rattle.std.proofs.Common.{◌≡◌, ◌≢◌, ◌∙◌, ℕ, ◌+◌, ◌-◌, ◌*◌, ◌<◌, ◌≤◌, List, length, get_or, set, take, drop, true, sym, ap, ap₂, inl, inr, arith, below_more}
 use Rattle.std.proofs.lemmas.Bool.{cases_lt}
 use Rattle.std.proofs.lemmas.List.{get_or-take, get_or-drop, length-drop, length-take-le}
 use borrow.Rule.Slice.PartMut.{put_mid}
-use Rattle.std.proofs.lemmas.Bool.{cases_eq}
-use Rattle.std.proofs.lemmas.List.{get_or-set_same, get_or-set_other, get_or_default, ext_get_or}
+use Rattle.std.proofs.lemmas.List.{get_or-set_same, get_or-set_other, ext_get_or}
 use Rattle.namespace_id.specs.declared.cells.Cell.{Cell}
 use Rattle.namespace_id.specs.declared.cells.Axis.{Axis}
 use Rattle.namespace_id.specs.declared.shares.Share.{Share}
@@ -19,29 +18,19 @@ use Rattle.axis_roots.specs.Lines.{blank, cell_on, line_names}
 use Rattle.axis_roots.specs.Trees.{line_leaves}
 use Rattle.axis_roots.proofs.Grids.LineLemmas.{length-line_names, get_or-line_names}
 use Rattle.axis_roots.proofs.Grids.BatchLemmas.{written_at, kept_at}
-use Rattle.repair_queue.specs.Boards.{AreLeavesTo}
-
--- the namespace of the leaf at a position
-pub name_at : (k : ℕ) (axis : Axis) (i : ℕ) (line : List Share) (names : List Namespace) (pos : ℕ) (cell : Cell) (d : Namespace) (e : Share) → names ≡ line_names k axis i line
-    → pos < 2 * k → length line ≡ 2 * k → cell ≡ cell_on axis i pos → get_or names pos d ≡ leaf_namespace k cell (get_or line pos e)
-name_at k axis i line names pos cell d e are below long is =
-    ap (λ (l : List Namespace). get_or l pos d) are ∙ get_or-line_names k axis i line pos d below
-    ∙ ap₂ (λ (x : Cell) (s : Share). leaf_namespace k x s) (sym is) (get_or_default line pos blank e (omega (arith, long)))
+use Rattle.axis_roots.specs.Grids.{share_at}
+use Rattle.axis_roots.proofs.Grids.WrittenLemmas.{on_axis_in_square}
+use Rattle.data_header.specs.Headers.{Roots}
+use Rattle.repair_queue.specs.declared.boards.Board.{Board}
+use Rattle.repair_queue.specs.Boards.{decided_of, shared_of, is_lined, AreAlikeLined, AreLeavesTo, IsGood}
 
 -- one digest more
-pub next_digest : (k : ℕ) (axis : Axis) (i : ℕ) (line : List Share) (names : List Namespace) (digests : List Digest) (pos : ℕ) (made : Digest) (d : Namespace) (e : Share)
-    → names ≡ line_names k axis i line → length line ≡ 2 * k → pos < 2 * k → length digests ≡ 2 * k → made ≡ leaf_digest (get_or names pos d) (get_or line pos e)
-    → ((p : ℕ) → p < pos → get_or digests p no_digest ≡ get_or (line_leaves k axis i line) p no_digest)
-    → (p : ℕ) → p < pos + 1 → get_or (set digests pos made) p no_digest ≡ get_or (line_leaves k axis i line) p no_digest
-next_digest k axis i line names digests pos made d e are long below count is so p h = elim (cases_eq p pos) [
-  | inl same ↦
-      let there : get_or (line_leaves k axis i line) pos no_digest ≡ leaf_digest (get_or (line_names k axis i line) pos d) (get_or line pos e) =
-      leaf_digests-at (line_names k axis i line) line pos d e (length-line_names k axis i line ∙ sym long) (omega (arith, length-line_names k axis i line)) in
-      ap (λ (q : ℕ). get_or (set digests pos made) q no_digest) same ∙ get_or-set_same digests pos made no_digest (omega (arith, count)) ∙ is
-      ∙ ap (λ (l : List Namespace). leaf_digest (get_or l pos d) (get_or line pos e)) are ∙ sym there
-      ∙ ap (λ (q : ℕ). get_or (line_leaves k axis i line) q no_digest) (sym same)
-  | inr apart ↦ get_or-set_other digests pos p made no_digest apart ∙ so p (omega arith)
-]
+pub next_digest : (leaves digests : List Digest) (pos : ℕ) (made : Digest) → pos < length digests → made ≡ get_or leaves pos no_digest
+    → AreLeavesTo leaves pos digests → AreLeavesTo leaves (pos + 1) (set digests pos made)
+next_digest leaves digests pos made below is so =
+    below_more (λ p. get_or (set digests pos made) p no_digest ≡ get_or leaves p no_digest) pos
+    (λ p low. let apart : p ≢ pos = omega arith in get_or-set_other digests pos p made no_digest apart ∙ so p low)
+    (get_or-set_same digests pos made no_digest below ∙ is)
 
 -- all of them
 pub all_digests : (k : ℕ) (axis : Axis) (i : ℕ) (line : List Share) (digests : List Digest) (n : ℕ) → 2 * k ≤ n → length line ≡ 2 * k → length digests ≡ 2 * k
@@ -58,6 +47,16 @@ leaf_at k axis i line pos long below =
     leaf_digests-at (line_names k axis i line) line pos (leaf_namespace k (cell_on axis i pos) (get_or line pos blank)) blank (length-line_names k axis i line ∙ sym long)
     (omega (arith, length-line_names k axis i line))
     ∙ ap (λ (n : Namespace). leaf_digest n (get_or line pos blank)) (get_or-line_names k axis i line pos (leaf_namespace k (cell_on axis i pos) (get_or line pos blank)) below)
+
+-- the digest that is kept of a cell on a decided row or column is the one of a line with the shares that stand there
+pub kept_digest : (header : Roots) (b : Board) (axis : Axis) (i pos : ℕ) (line : List Share) → IsGood header b → i < 2 * header.k → pos < 2 * header.k
+    → length line ≡ 2 * header.k → AreAlikeLined header.k (decided_of b) (shared_of b) axis i line → is_lined (decided_of b) (cell_on axis i pos) ≡ true
+    → get_or b.leaves.items ((cell_on axis i pos).row * (2 * header.k) + (cell_on axis i pos).col) no_digest ≡ get_or (line_leaves header.k axis i line) pos no_digest
+kept_digest header b axis i pos line good within below long alike on =
+    let cell : Cell = cell_on axis i pos in
+    good.leaves cell (on_axis_in_square header.k axis i pos within below) on
+    ∙ ap (λ (s : Share). leaf_digest (leaf_namespace header.k cell s) s) (ap (λ (k : ℕ). share_at (2 * k) b.grid.shares cell) good.width ∙ alike pos below on)
+    ∙ sym (leaf_at header.k axis i line pos long below)
 
 -- the digest of a leaf among some is that at its place among all
 part_at : (names : List Namespace) (line : List Share) (from n i : ℕ) (d : Namespace) (e : Share) → length names ≡ length line → from + n ≤ length names → i < n

@@ -1,7 +1,7 @@
 -- Cells on decided rows and columns, and the share that is known of a cell.
 use Rattle.std.proofs.Common.{◌≡◌, ◌∙◌, ◌⊎◌, ℕ, true, false, ◌||◌, refl, sym, ap, inl, inr}
 use Rattle.std.specs.Prelude.{Option, Some, None, is_some}
-use Rattle.std.proofs.lemmas.Bool.{cases_Bool, true≢false, or_left, or_right, or_cases}
+use Rattle.std.proofs.lemmas.Bool.{cases_Bool, true≢false, false_from_ne_true, or_left, or_right, or_cases}
 use Rattle.namespace_id.specs.declared.cells.Cell.{Cell}
 use Rattle.namespace_id.specs.declared.cells.Axis.{Axis}
 use Rattle.namespace_id.specs.declared.cells.Axis.TheVariants.{Row, Col}
@@ -28,10 +28,7 @@ lined_one flag cell on = elim (or_cases (flag Row cell.row) (flag Col cell.col) 
 
 -- a cell on none lies on no decided row or column
 pub lined_off : (flag : Flags) (axis : Axis) (cell : Cell) → is_lined flag cell ≡ false → flag axis (index axis cell) ≡ false
-lined_off flag axis cell off = elim (cases_Bool (flag axis (index axis cell))) [
-  | inl on ↦ absurd (true≢false (sym (lined_by flag axis cell on) ∙ off))
-  | inr is ↦ is
-]
+lined_off flag axis cell off = false_from_ne_true (flag axis (index axis cell)) (λ on. true≢false (sym (lined_by flag axis cell on) ∙ off))
 
 -- ---- one more that is decided
 
@@ -52,20 +49,14 @@ module _ (flag raised : Flags) (axis : Axis) (i : ℕ) (flagged : IsFlagged flag
 
   -- one that isn't set wasn't
   pub was_unset : (other : Axis) (j : ℕ) → raised other j ≡ false → flag other j ≡ false
-  was_unset other j off = elim (cases_Bool (flag other j)) [
-    | inl on ↦ absurd (true≢false (sym (stays_set other j on) ∙ off))
-    | inr is ↦ is
-  ]
+  was_unset other j off = false_from_ne_true (flag other j) (λ on. true≢false (sym (stays_set other j on) ∙ off))
 
   -- cells on decided rows and columns stay so
   pub lined_stays : (cell : Cell) → is_lined flag cell ≡ true → is_lined raised cell ≡ true
   lined_stays cell on = let one = lined_one flag cell on in lined_by raised one.0 cell (stays_set one.0 (index one.0 cell) one.1)
 
   pub lined_was : (cell : Cell) → is_lined raised cell ≡ false → is_lined flag cell ≡ false
-  lined_was cell off = elim (cases_Bool (is_lined flag cell)) [
-    | inl on ↦ absurd (true≢false (sym (lined_stays cell on) ∙ off))
-    | inr is ↦ is
-  ]
+  lined_was cell off = false_from_ne_true (is_lined flag cell) (λ on. true≢false (sym (lined_stays cell on) ∙ off))
 
   -- others are only those on this one
   pub lined_else : (cell : Cell) → (index axis cell ≡ i → ⊥) → is_lined raised cell ≡ is_lined flag cell
@@ -86,26 +77,19 @@ pub found_lined : (slot : Kept) (flag : Flags) (cell : Cell) → is_lined flag c
 found_lined slot flag cell on =
     or_left (is_lined flag cell || is_some (slot Row cell)) (is_some (slot Col cell)) (or_left (is_lined flag cell) (is_some (slot Row cell)) on)
 
--- a slot that holds a sample isn't empty
-some_held : (slot : Option Proved) (kept : Proved) → slot ≡ Some kept → is_some slot ≡ true
-some_held (Some a) kept e = refl
-some_held None kept e = absurd cc
-
 -- a cell of which a sample is kept is known
+pub found_some : (slot : Kept) (flag : Flags) (axis : Axis) (cell : Cell) → is_some (slot axis cell) ≡ true → is_found slot flag cell ≡ true
+found_some slot flag Row cell some =
+    or_left (is_lined flag cell || is_some (slot Row cell)) (is_some (slot Col cell)) (or_right (is_lined flag cell) (is_some (slot Row cell)) some)
+found_some slot flag Col cell some = or_right (is_lined flag cell || is_some (slot Row cell)) (is_some (slot Col cell)) some
+
 pub found_held : (slot : Kept) (flag : Flags) (axis : Axis) (cell : Cell) (kept : Proved) → slot axis cell ≡ Some kept → is_found slot flag cell ≡ true
-found_held slot flag Row cell kept e =
-    or_left (is_lined flag cell || is_some (slot Row cell)) (is_some (slot Col cell))
-    (or_right (is_lined flag cell) (is_some (slot Row cell)) (some_held (slot Row cell) kept e))
-found_held slot flag Col cell kept e =
-    or_right (is_lined flag cell || is_some (slot Row cell)) (is_some (slot Col cell)) (some_held (slot Col cell) kept e)
+found_held slot flag axis cell kept e = found_some slot flag axis cell (ap is_some e)
 
 -- what a slot that isn't empty holds
 held_some : (slot : Option Proved) → is_some slot ≡ true → (kept : Proved) × (slot ≡ Some kept)
 held_some (Some kept) e = (kept, refl)
 held_some None e = absurd cc
-
-pub found_some : (slot : Kept) (flag : Flags) (axis : Axis) (cell : Cell) → is_some (slot axis cell) ≡ true → is_found slot flag cell ≡ true
-found_some slot flag axis cell some = let x = held_some (slot axis cell) some in found_held slot flag axis cell x.0 x.1
 
 -- a known cell lies on a decided row or column, or a sample of it is kept
 pub found_how : (slot : Kept) (flag : Flags) (cell : Cell) → is_found slot flag cell ≡ true

@@ -1,5 +1,5 @@
 -- Samples that are made or taken for what ends a session; and strict roots by digests of leaves.
-use Rattle.std.proofs.Common.{◌≡◌, ◌≢◌, ◌∙◌, ℕ, suc, zero, ◌+◌, ◌-◌, ◌*◌, ◌<◌, ◌≤◌, List, [], ◌∷◌, length, get_or, cond, Bool, true, false, sym, ap, arith}
+use Rattle.std.proofs.Common.{◌≡◌, ◌≢◌, ◌∙◌, ℕ, ◌*◌, ◌<◌, List, length, cond, Bool, true, false, sym, ap}
 use Rattle.std.specs.Prelude.{Some, None}
 use Rattle.namespace_id.specs.declared.cells.Cell.{Cell}
 use Rattle.namespace_id.specs.declared.cells.Axis.{Axis}
@@ -22,9 +22,6 @@ use Rattle.axis_roots.proofs.Grids.AxisLemmas.{get_or-along, cell_on-own}
 use Rattle.axis_roots.proofs.Grids.LineLemmas.{length-line_names}
 use Rattle.befp_maker.specs.Rooms.{RoomParts}
 use Rattle.repair_queue.specs.Slots.{Kept, IsApart, IsAlike}
-use Rattle.repair_queue.specs.Closures.{AreChosen}
-use Rattle.leopard_code.proofs.MissingLemmas.{Rises}
-use Rattle.leopard_code.proofs.StandingLemmas.{positions_rise}
 
 -- the sample along the column shows another share where that along the row doesn't
 pub other_col : (slot : Kept) (cell : Cell) (share : Share) (kept : Proved) → (axis : Axis) × IsApart (slot axis cell) share → IsAlike (slot Row cell) share
@@ -69,41 +66,3 @@ rises k axis i line names digests folded n made width long are is same count eq 
     ap Some (eq ∙ ap (λ (m : ℕ). span folded 0 (halvings m)) count ∙ ap (λ (l : List Digest). span l 0 (halvings (2 * k))) (same ∙ is) ∙ sym over
     ∙ ap (λ (l : List Namespace). root (halvings (2 * k)) l line) (sym are))
     ∙ sym (strict-by k axis i line names are ∙ ap (λ (b : Bool). cond b (Some (root (halvings (2 * k)) names line)) None) on)
-
--- ---- known originals
-
--- ascending numbers rise by one at least
-rise : (ps : List ℕ) (low high j : ℕ) → Rises low high ps → j < length ps → low + j ≤ get_or ps j 0
-unfolding Rises
-rise [] low high j up h = absurd (omega arith)
-rise (p ∷ ps) low high zero up h = let le : low ≤ p = up.0 in omega arith
-rise (p ∷ ps) low high (suc j) up h =
-    let le : low ≤ p = up.0 in let rest : suc p + j ≤ get_or ps j 0 = rise ps (suc p) high j up.2 (omega arith) in omega arith
-
--- and so up to the last
-rise_last : (ps : List ℕ) (low high j : ℕ) → Rises low high ps → j < length ps → get_or ps j 0 + (length ps - 1 - j) ≤ get_or ps (length ps - 1) 0
-unfolding Rises
-rise_last [] low high j up h = absurd (omega arith)
-rise_last (p ∷ []) low high zero up h = omega arith
-rise_last (p ∷ q ∷ ps) low high zero up h =
-    let e : length (p ∷ q ∷ ps) - 1 ≡ suc (length (q ∷ ps) - 1) = omega arith in
-    let last : suc p + (length (q ∷ ps) - 1) ≤ get_or (q ∷ ps) (length (q ∷ ps) - 1) 0 = rise (q ∷ ps) (suc p) high (length (q ∷ ps) - 1) up.2 (omega arith) in
-    let there : get_or (p ∷ q ∷ ps) (length (p ∷ q ∷ ps) - 1) 0 ≡ get_or (q ∷ ps) (length (q ∷ ps) - 1) 0 = ap (λ (n : ℕ). get_or (p ∷ q ∷ ps) n 0) e in
-    omega (arith, last, there)
-rise_last (p ∷ []) low high (suc j) up h = absurd (omega arith)
-rise_last (p ∷ q ∷ ps) low high (suc j) up h =
-    let e : length (p ∷ q ∷ ps) - 1 ≡ suc (length (q ∷ ps) - 1) = omega arith in
-    let rest : get_or (q ∷ ps) j 0 + (length (q ∷ ps) - 1 - j) ≤ get_or (q ∷ ps) (length (q ∷ ps) - 1) 0 = rise_last (q ∷ ps) (suc p) high j up.2 (omega arith) in
-    let there : get_or (p ∷ q ∷ ps) (length (p ∷ q ∷ ps) - 1) 0 ≡ get_or (q ∷ ps) (length (q ∷ ps) - 1) 0 = ap (λ (n : ℕ). get_or (p ∷ q ∷ ps) n 0) e in
-    omega (arith, rest, there)
-
--- k chosen positions of which the last is below k are the first k
-pub first_ones : (k : ℕ) (known : List ℕ) → AreChosen k known → get_or known (k - 1) 0 < k → (j : ℕ) → j < k → get_or known j 0 ≡ j
-first_ones k [] are last j h = absurd (let e : 0 ≡ k = are.count in omega arith)
-first_ones k (p ∷ ps) are last j h =
-    let up : Rises 0 (2 * k) (p ∷ ps) = positions_rise k (p ∷ ps) are.positions in
-    let count : length (p ∷ ps) ≡ k = are.count in
-    let least : 0 + j ≤ get_or (p ∷ ps) j 0 = rise (p ∷ ps) 0 (2 * k) j up (omega arith) in
-    let most : get_or (p ∷ ps) j 0 + (length (p ∷ ps) - 1 - j) ≤ get_or (p ∷ ps) (length (p ∷ ps) - 1) 0 = rise_last (p ∷ ps) 0 (2 * k) j up (omega arith) in
-    let end : get_or (p ∷ ps) (length (p ∷ ps) - 1) 0 ≡ get_or (p ∷ ps) (k - 1) 0 = ap (λ (n : ℕ). get_or (p ∷ ps) (n - 1) 0) count in
-    omega (arith, least, most, end, count)

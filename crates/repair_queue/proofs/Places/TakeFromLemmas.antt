@@ -1,23 +1,16 @@
 -- A sample that is taken out of a pool, and shares that are compared.
-use Rattle.std.proofs.Common.{◌≡◌, ◌≢◌, ◌∙◌, ◌⊎◌, ℕ, ◌+◌, ◌<◌, List, length, get_or, Bool, true, false, refl, sym, ap, subst, inl, inr, arith}
-use Rattle.std.specs.Prelude.{Option, Some, None}
+use Rattle.std.proofs.Common.{◌≡◌, ◌≢◌, ◌∙◌, ℕ, ◌+◌, ◌<◌, List, length, get_or, Bool, true, false, sym, ap, subst, below_more}
 use Rattle.std.specs.Str.{bytes_eq}
-use Rattle.std.proofs.lemmas.Bool.{cases_lt, true≢false}
+use Rattle.std.proofs.lemmas.Bool.{true≢false}
 use Rattle.std.proofs.lemmas.List.{get_or_default}
 use Rattle.std.proofs.lemmas.Slice.Eq.{bytes_eq-Decides}
 use Rattle.namespace_id.specs.declared.cells.Cell.{Cell}
 use Rattle.namespace_id.specs.declared.cells.Axis.{Axis}
 use Rattle.namespace_id.specs.declared.shares.Share.{Share}
-use Rattle.axis_roots.specs.declared.message.proved.Proved.{Proved}
 use Rattle.axis_roots.specs.Lines.{blank, cell_on, entry}
 use Rattle.repair_queue.specs.Slots.{Kept, Flags}
 use Rattle.repair_queue.specs.Boards.{Shared}
 use Rattle.repair_queue.specs.Judging.{IsAlikeAt}
-
--- what a place leads to: a sample or none
-pub message_or_not : (slot : Option Proved) → ((kept : Proved) × (slot ≡ Some kept)) ⊎ (slot ≡ None)
-message_or_not (Some kept) = inl (kept, refl)
-message_or_not None = inr refl
 
 -- two shares that are found to be one
 pub same_eq : (a b : Share) (t : Bool) → t ≡ bytes_eq a.0 b.0 → t ≡ true → a ≡ b
@@ -32,11 +25,7 @@ pub next_alike : (slot : Kept) (flag : Flags) (shares : Shared) (axis : Axis) (i
     → cell ≡ cell_on axis i pos → pos < length line → IsAlikeAt slot flag shares cell (get_or line pos d)
     → ((p : ℕ) → p < pos → IsAlikeAt slot flag shares (cell_on axis i p) (entry line p))
     → (p : ℕ) → p < pos + 1 → IsAlikeAt slot flag shares (cell_on axis i p) (entry line p)
-next_alike slot flag shares axis i pos line cell d is below here before p h = elim (cases_lt p pos) [
-  | inl earlier ↦ before p earlier
-  | inr later ↦
-      let last : pos ≡ p = omega arith in
-      subst (λ (q : ℕ). IsAlikeAt slot flag shares (cell_on axis i q) (entry line q)) last
-      (subst (IsAlikeAt slot flag shares (cell_on axis i pos)) (get_or_default line pos d blank below)
-      (subst (λ (x : Cell). IsAlikeAt slot flag shares x (get_or line pos d)) is here))
-]
+next_alike slot flag shares axis i pos line cell d is below here before =
+    below_more (λ q. IsAlikeAt slot flag shares (cell_on axis i q) (entry line q)) pos before
+    (subst (IsAlikeAt slot flag shares (cell_on axis i pos)) (get_or_default line pos d blank below)
+    (subst (λ (x : Cell). IsAlikeAt slot flag shares x (get_or line pos d)) is here))

@@ -1,13 +1,13 @@
-use Rattle.std.proofs.Common.{◌∙◌, ◌*◌, refl, arith}
+use Rattle.std.proofs.Common.{◌∙◌, refl, inl, arith}
 use Rattle.repair_queue.specs.Pools.{slot_in}
-use Rattle.repair_queue.proofs.Lines.ClearLemmas.{cleared_none, cleared_next, cleared_to}
+use Rattle.repair_queue.proofs.Lines.ClearLemmas.{cleared_next}
 use Rattle.repair_queue.proofs.keeping.clear_line.Goals as goal
 
 -- none is out at first
 pub loop-pos-init : goal.loop-pos-init
 loop-pos-init c = record {
   width = refl;
-  cleared = cleared_none (slot_in c.args.pool.now) c.args.axis c.args.index;
+  cleared = record { here = λ own pos h. absurd (omega arith); each = λ own cell. inl refl };
   room = λ roomy. roomy;
 }
 
@@ -22,6 +22,7 @@ loop-pos-preserved c = record {
 
 -- at the end all are
 pub returns-clause-cleared : goal.returns-clause-cleared
-returns-clause-cleared c =
-    cleared_to (slot_in c.args.pool.now) (slot_in c.loop-pos.pool) c.args.axis c.args.index c.loop-pos.pos (2 * c.args.pool.now.places.k) (omega (arith, c.requires.k))
-    c.loop-pos.invariant.cleared
+returns-clause-cleared c = record {
+  here = λ own pos h. c.loop-pos.invariant.cleared.here own pos (omega (arith, h, c.requires.k));
+  each = c.loop-pos.invariant.cleared.each;
+}
