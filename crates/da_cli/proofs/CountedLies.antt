@@ -7,10 +7,10 @@ use Rattle.da_wire.specs.Reading.{Raw}
 use Rattle.da_wire.specs.Frames.{frames_of}
 use Rattle.da_status.specs.declared.status.Status.TheVariants.{Missing}
 use Rattle.da_files.specs.Frames.{header_in}
+use Rattle.da_files.specs.Forms.{Over}
 use Rattle.da_judging.specs.Check.{finding_of, is_ok}
-use Rattle.da_judging.specs.Repair.{lies_in, answer_status, RepairOf}
+use Rattle.da_judging.specs.Repair.{lies_in, answer_status, Repairs, RepairOf}
 use Rattle.da_files.specs.Contents.{header_file, messages_file}
-use Rattle.da_judging.proofs.RepairLemmas.{answer_by}
 
 -- one frame more, which is proved or a lie
 count_one : (ok : Bool) (lies n : ℕ) (frame : Raw) (proved : List Raw) → lies + length proved ≡ n
@@ -39,6 +39,6 @@ pub lies_counted : (files : List (List ℕ)) (header : Roots) (w : List ℕ) (ce
     → lies + length (filter (λ frame. is_ok (finding_of header frame)) (frames_of (messages_file files))) ≡ length (frames_of (messages_file files))
 lies_counted files header w cells lies read answers =
     let frames = frames_of (messages_file files) in
-    let own = subst (λ (a : Result Roots ℕ). answer_by a frames w (Missing cells lies)) read answers in
+    let own = subst (λ (a : Result Roots ℕ). Over a (λ h. Repairs h frames) w (Missing cells lies)) read answers in
     let count : lies ≡ lies_in header frames = status_lies (lies_in header frames) own.0 cells lies own.2.1 in
     ap (λ (n : ℕ). n + length (filter (λ (frame : Raw). is_ok (finding_of header frame)) frames)) count ∙ each_counted header frames

@@ -42,8 +42,8 @@ use Rattle.da_judging.specs.VerifyFor.{IsRefusalFor}
 use Rattle.da_judging.specs.VerifyCommitment.{states_commitment}
 use Rattle.da_files.specs.Contents.{messages_file}
 use Rattle.da_files.proofs.FormLemmas.{over_each}
-use Rattle.da_judging.proofs.VerifyForLemmas.{asked_holds, shows_asked}
-use Rattle.da_judging.proofs.VerifyCommitmentLemmas.{stated_holds}
+use Rattle.da_judging.proofs.AskedLemmas.{answers_to}
+use Rattle.da_judging.proofs.VerifyLemmas.{holds_by, shows_asked, states_is}
 use Rattle.da_commands.specs.Net.{script_file, Nets}
 use Rattle.da_script.specs.Plays as plays
 use Rattle.da_script.specs.Alarms.{TellsOwn}
@@ -138,11 +138,11 @@ are_own (Some files) words found verified file repaired lit compacted followed n
       (subst (λ (b : Result ClaimParts ℕ). MatchResult b (λ c. CompactsJudged header c w status) (λ at. ⊥)) second
       (subst (λ (a : Result Roots ℕ). MatchResult a (λ h. MatchResult (claim_in (claim_file contents)) (λ c. CompactsJudged h c w status) (λ at. ⊥)) (λ at. ⊥)) first answers));
   verify_for = λ contents header square answer request refusal command read first own fits second third refused ok.
-      let holds = (asked_holds header answer request).0 (subst (IsRefusalFor (is_answer_to request answer) header answer) (ok_has_none refusal ok) refused) in
+      let holds = (holds_by _ _ header answer (answers_to request answer)).0 (subst (IsRefusalFor (is_answer_to request answer) header answer) (ok_has_none refusal ok) refused) in
       let reply = verified header answer square ((file (answer_file contents) answer fits).0 second).0 own holds.0 in
       (holds.1, reply, shows_asked request answer square holds.1 reply);
   verify_commitment = λ contents header square answer commitment refusal command read first own fits second refused ok.
-      let holds = (stated_holds header answer commitment).0
+      let holds = (holds_by _ _ header answer (states_is commitment answer)).0
       (subst (IsRefusalFor (states_commitment commitment answer) header answer) (ok_has_none refusal ok) refused) in
       (holds.1, verified header answer square ((file (answer_file contents) answer fits).0 second).0 own holds.0);
   repair = λ contents header square w status command read first own fits answers.

@@ -1,5 +1,5 @@
 -- What repair answers to a second file, whose bytes were not kept.
-use Rattle.std.proofs.Common.{◌≡◌, ℕ, ◌≤◌, List, [], ◌∷◌, drop, arith, Some, None, Result, Ok, Err, refl, sym, subst, inl, inr}
+use Rattle.std.proofs.Common.{◌≡◌, ℕ, ◌≤◌, List, [], ◌∷◌, drop, arith, Some, None, Result, Ok, Err, refl, sym, ap, ap₂, subst, inl, inr}
 use Rattle.std.specs.Prelude.{MatchOption}
 use Rattle.std.specs.declared.option.Option.{Option}
 use Rattle.data_header.specs.Headers.{Roots}
@@ -13,29 +13,34 @@ use Rattle.da_status.specs.declared.status.Status.{Status}
 use Rattle.da_status.specs.declared.status.Status.TheVariants.{BadInput}
 use Rattle.da_commands.specs.declared.command.Command.TheVariants.{Repair}
 use Rattle.da_files.specs.Contents.{file_of}
-use Rattle.da_status.specs.Outcome.{Refuses, EndsAtOnce}
+use Rattle.da_status.specs.Outcome.{Relation, Refuses, EndsAtOnce}
+use Rattle.da_status.specs.Judging.{Judged}
 use Rattle.da_cli.specs.Limits.{file_limit, repair_limits}
 use Rattle.da_cli.specs.Streamed.{IsRead, HasCome}
-use Rattle.da_files.specs.Frames.{header_in}
+use Rattle.da_files.specs.Frames.{header_in, error_of}
+use Rattle.da_files.specs.Forms.{Over}
 use Rattle.da_judging.specs.Repair.{Repairs}
 use Rattle.da_cli.specs.StreamedRepair.{RepairsFile, StreamsSecond, Streams}
 use Rattle.da_commands.specs.Meaning.{Meaning}
 use Rattle.da_status.proofs.EndLemmas.{once_as, once_refused}
-use Rattle.da_judging.proofs.RepairLemmas.{repair_is, repair_refuses, repair_header}
 use Rattle.da_cli.proofs.ComeLemmas.{come_none, come_file, stop_file, come_memory}
+
+-- what repair answers, by what the first file is and where the second leaves its form
+abbrev meant : List ℕ → Result Roots ℕ → Option ℕ → Relation
+meant bytes a b = Judged (error_of a ∷ b ∷ []) (Over a (λ h. Repairs h (frames_of bytes)))
 
 -- the meaning of two files: what repair comes to, or which of them isn't in its form
 second_is : (text bytes : List ℕ) (h : Roots) → header_in text ≡ Ok h → bad_frame bytes ≡ None → Repairs h (frames_of bytes) ≡ Meaning Repair (text ∷ bytes ∷ [])
 unfolding file_of
-second_is text bytes h read fine = repair_is (text ∷ bytes ∷ []) h read fine
+second_is text bytes h read fine = sym (ap₂ (meant bytes) read fine)
 
 second_refuses : (text bytes : List ℕ) (h : Roots) (at : ℕ) → header_in text ≡ Ok h → bad_frame bytes ≡ Some at → Refuses (BadInput 1 at) ≡ Meaning Repair (text ∷ bytes ∷ [])
 unfolding file_of
-second_refuses text bytes h at read bad = repair_refuses (text ∷ bytes ∷ []) h at read bad
+second_refuses text bytes h at read bad = sym (ap₂ (meant bytes) read bad)
 
 pub first_refuses : (text bytes : List ℕ) (at : ℕ) → header_in text ≡ Err at → Refuses (BadInput 0 at) ≡ Meaning Repair (text ∷ bytes ∷ [])
 unfolding file_of
-first_refuses text bytes at read = repair_header (text ∷ bytes ∷ []) at read
+first_refuses text bytes at read = sym (ap (λ (a : Result Roots ℕ). meant bytes a (bad_frame bytes)) read)
 
 module _ {I O : Type 0} (i : inputs.Ghosts I) (o : sink.Ghosts O) where
   -- how a command with this meaning ended

@@ -15,7 +15,7 @@ use Rattle.da_serving.proofs.BuildLemmas.{build_answers}
 use Rattle.da_serving.proofs.HeaderLemmas.{header_answers}
 use Rattle.da_serving.proofs.SampleLemmas.{sample_answers}
 use Rattle.da_serving.proofs.NamespaceLemmas.{namespace_answers}
-use Rattle.da_judging.proofs.VerifyLemmas.{verify_last}
+use Rattle.da_judging.proofs.VerifyLemmas.{verify_last, verify_for_last, verify_commitment_last}
 use Rattle.da_judging.proofs.CompactLemmas.{compact_last}
 use Rattle.da_judging.proofs.RepairLemmas.{repair_last}
 use Rattle.da_judging.proofs.LightLemmas.{light_answers, light_by_answers}
@@ -23,8 +23,6 @@ use Rattle.da_commands.proofs.Answering.NetLemmas.{net_answers}
 use Rattle.da_commands.proofs.Answering.ShowLemmas.{shows_answers}
 use Rattle.da_commands.proofs.Answering.DemoLemmas.{demo_answers}
 use Rattle.da_commands.proofs.Answering.CellsLemmas.{cells_answers, cells_by_answers}
-use Rattle.da_judging.proofs.VerifyForLemmas.{verify_for_last}
-use Rattle.da_judging.proofs.VerifyCommitmentLemmas.{verify_commitment_last}
 use Rattle.da_judging.proofs.RootLemmas.{root_last, root_is_last}
 use Rattle.da_serving.proofs.WantedLemmas.{wanted_last}
 use Rattle.da_serving.proofs.BlobsLemmas.{blobs_answers}

@@ -11,7 +11,7 @@ use crate::{cells, demo, help, net, show};
 use da_exchanging::{ExportForm, ImportForm, export, import};
 use da_following::follow;
 use da_io::Sink;
-use da_judging::{check, compact, light, root, verify, verify_commitment, verify_for};
+use da_judging::{check, compact, light, root, verify};
 use da_serving::{
     blobs, build, commit, find, header, namespace, prove, sample, transactions, wanted,
 };
@@ -116,9 +116,9 @@ pub fn execute<O: Sink>(alloc: Global, command: Command, files: &[Vec<u8>], out:
         Command::Json => show::json(alloc, files, out),
         Command::Demo(number, k) => demo::execute(alloc, number, k, out),
         Command::VerifyCommitment(commitment) => {
-            verify_commitment::execute(alloc, files, &commitment, out)
+            verify::execute_commitment(alloc, files, &commitment, out)
         }
-        Command::VerifyFor => verify_for::execute(alloc, files, out),
+        Command::VerifyFor => verify::execute_for(alloc, files, out),
         Command::Root => root::root(alloc, files, out),
         Command::RootIs(root) => root::root_is(alloc, files, &root, out),
         Command::Wanted(axis) => wanted::execute(alloc, files, axis, out),

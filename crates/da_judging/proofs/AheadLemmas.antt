@@ -42,21 +42,7 @@ leads_all k before rest all so_far = subst (λ (l : List Digest). AreAhead k l a
 -- what is taken is the first digest, and where there is none there are no others
 pub taken_ahead : (k : ℕ) (leaf : Option Digest) (old new : List Digest) (frames : List Raw) → AreAhead k old frames → IfSome leaf (λ digest. old ≡ digest ∷ new)
     → (IsNone leaf → new ≡ []) → IsNextAhead k leaf new frames
-taken_ahead k None old new frames ahead first empty = empty refl
-taken_ahead k (Some digest) old new frames ahead first empty = subst (λ (l : List Digest). AreAhead k l frames) first ahead
-
--- the first frame shows the leaf of which the digest comes first
-front_shown : (k : ℕ) (digest : Digest) (digests : List Digest) (frame : Raw) (frames : List Raw) → AreAhead k (digest ∷ digests) (frame ∷ frames) → IsLeafDigestOf k digest frame × AreAhead k digests frames
 unfolding AreAhead
-front_shown k digest digests frame frames ahead = ahead
-
-pub next_shown : (k : ℕ) (leaf : Option Digest) (digests : List Digest) (frames : List Raw) (frame : Raw) (after : List Raw) → IsNextAhead k leaf digests frames → frames ≡ frame ∷ after
-    → IfSome leaf (λ digest. IsLeafDigestOf k digest frame)
-next_shown k None digests frames frame after ahead next = tt
-next_shown k (Some digest) digests frames frame after ahead next = (front_shown k digest digests frame after (subst (AreAhead k (digest ∷ digests)) next ahead)).0
-
--- and the frames behind it show the others
-pub next_ahead : (k : ℕ) (leaf : Option Digest) (digests : List Digest) (frames : List Raw) (frame : Raw) (after : List Raw) → IsNextAhead k leaf digests frames → frames ≡ frame ∷ after
-    → AreAhead k digests after
-next_ahead k None digests frames frame after ahead next = subst (λ (l : List Digest). AreAhead k l after) (sym ahead) (none_ahead k after)
-next_ahead k (Some digest) digests frames frame after ahead next = (front_shown k digest digests frame after (subst (AreAhead k (digest ∷ digests)) next ahead)).1
+taken_ahead k None old new frames ahead first empty = λ frame after next. (tt, subst (λ (l : List Digest). AreAhead k l after) (sym (empty refl)) (none_ahead k after))
+taken_ahead k (Some digest) old new frames ahead first empty = λ frame after next.
+    subst (λ (l : List Digest). AreAhead k l (frame ∷ after)) first (subst (AreAhead k old) next ahead)

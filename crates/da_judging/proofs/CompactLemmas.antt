@@ -1,5 +1,5 @@
 -- What the command compact answers.
-use Rattle.std.proofs.Common.{◌≡◌, ℕ, List, [], ◌∷◌, Some, None, Result, Ok, Err, false, refl, sym, ap, subst, inl, inr, ◌∙◌}
+use Rattle.std.proofs.Common.{◌≡◌, ℕ, List, Some, None, false, sym, ap, subst, inl, inr}
 use Rattle.std.specs.declared.option.Option.{Option}
 use Rattle.hash_clash.specs.Collisions.{Strings}
 use Rattle.data_header.specs.Headers.{Roots}
@@ -17,41 +17,21 @@ use Rattle.frame_payloads.specs.kinds.Fraud.{is_unwritten}
 use Rattle.frame_payloads.proofs.AcceptedClaims.{accepted_written}
 use Rattle.da_status.specs.declared.status.Status.{Status}
 use Rattle.da_status.specs.Statuses.{status_kind, output}
-use Rattle.da_status.specs.Judging.{first_bad, Judged}
-use Rattle.da_files.specs.Frames.{header_in, error_of, claim_in}
-use Rattle.da_files.specs.Forms.{single_judged, under_judged, Over}
-use Rattle.da_judging.specs.Compact.{claim_file, made_status, CompactsBy, CompactsJudged, CompactsOwn, CompactOf}
+use Rattle.da_files.specs.Frames.{header_in, claim_in}
+use Rattle.da_files.specs.Forms.{Over}
+use Rattle.da_judging.specs.Compact.{claim_file, WritesMade, CompactsBy, CompactsJudged, CompactsOwn, CompactOf}
 use Rattle.da_files.specs.Contents.{header_file}
-use Rattle.da_files.proofs.FormLemmas.{second_bad, over_is, judged_over, over_each}
+use Rattle.da_files.proofs.FormLemmas.{over_each}
 use Rattle.da_judging.proofs.ClashLemmas.{found_full}
 
-module _ (files : List (List ℕ)) (fine : first_bad 0 (single_judged header_in files) ≡ None) where
-  -- the first file that isn't in its form, by what the second one is
-  by_second : (read : Result ClaimParts ℕ) → claim_in (claim_file files) ≡ read → first_bad 0 (under_judged claim_in files) ≡ first_bad 1 (error_of read ∷ [])
-  by_second read is =
-      second_bad (error_of (header_in (header_file files))) (error_of (claim_in (claim_file files)) ∷ []) fine
-      ∙ ap (λ (r : Result ClaimParts ℕ). first_bad 1 (error_of r ∷ [])) is
-
-  -- the second file is no claim
-  pub compact_no_claim : (at : ℕ) → claim_in (claim_file files) ≡ Err at → first_bad 0 (under_judged claim_in files) ≡ Some (1, at)
-  compact_no_claim at bad = by_second (Err at) bad
-
-  -- the meaning of files that were read
-  pub compact_is : (header : Roots) (claim : ClaimParts) → header_in (header_file files) ≡ Ok header → claim_in (claim_file files) ≡ Ok claim
-      → CompactsJudged header claim ≡ Judged (under_judged claim_in files) (CompactOf files)
-  compact_is header claim read reads =
-      over_is (λ (c : ClaimParts). CompactsJudged header c) (claim_in (claim_file files)) claim reads
-      ∙ judged_over (λ (h : Roots). Over (claim_in (claim_file files)) (λ (c : ClaimParts). CompactsJudged h c)) (under_judged claim_in files)
-      (header_in (header_file files)) header (by_second (Ok claim) reads) read
-
 -- what a claim was made into is a complete output
-made_kind : (one : Compacted) → status_kind (made_status one) ≡ output
-made_kind (made.Claim claim) = refl
-made_kind (made.Clash clash) = refl
+made_kind : (one : Compacted) (w : List ℕ) (status : Status) → WritesMade one w status → status_kind status ≡ output
+made_kind (made.Claim claim) w status h = ap status_kind h.1
+made_kind (made.Clash clash) w status h = ap status_kind h.1
 
 -- so is what is written for a claim
 judged_kind : (header : Roots) (claim : ClaimParts) (why : Option FraudRefusal) (w : List ℕ) (status : Status) → CompactsBy header claim why w status → status_kind status ≡ output
-judged_kind header claim None w status h = ap status_kind h.2.1 ∙ made_kind h.0
+judged_kind header claim None w status h = made_kind h.0 w status h.2
 judged_kind header claim (Some why) w status h = ap status_kind h.1
 
 -- what compact answers comes with a complete output

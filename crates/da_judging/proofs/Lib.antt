@@ -1,13 +1,11 @@
+pub mod OnceLemmas
 pub mod AheadLemmas
 pub mod CheckLemmas
 pub mod ClashLemmas
-pub mod MessageLemmas
 pub mod RepairLemmas
 pub mod LightLemmas
 pub mod NodeLemmas
 pub mod AskedLemmas
 pub mod VerifyLemmas
 pub mod CompactLemmas
-pub mod VerifyForLemmas
-pub mod VerifyCommitmentLemmas
 pub mod RootLemmas

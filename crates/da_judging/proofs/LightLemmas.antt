@@ -1,5 +1,5 @@
 -- What the command light answers.
-use Rattle.std.proofs.Common.{◌≡◌, ◌∙◌, ℕ, ◌<◌, Bool, true, false, List, [], ◌∷◌, Some, None, Result, Ok, Err, sym, ap, subst, inl, inr, arith}
+use Rattle.std.proofs.Common.{◌≡◌, ℕ, ◌<◌, Bool, true, false, List, sym, ap, subst, inl, inr, arith}
 use Rattle.std.specs.Prelude.{nat_lt}
 use Rattle.std.proofs.lemmas.Bool.Decides.{nat_tests}
 use Rattle.data_header.specs.Headers.{Roots}
@@ -15,37 +15,28 @@ use Rattle.light_node.specs.declared.events.Light.{Light}
 use Rattle.light_node.specs.declared.events.Light.TheVariants as light
 use Rattle.light_node.specs.Events.{IsLight}
 use Rattle.da_wire.specs.Reading.{Raw}
-use Rattle.da_wire.specs.Frames.{frames_of, bad_frame}
+use Rattle.da_wire.specs.Frames.{frames_of}
 use Rattle.da_status.specs.declared.status.Asked.TheVariants.{Count}
 use Rattle.da_status.specs.declared.status.Status.{Status}
 use Rattle.da_status.specs.declared.status.Status.TheVariants.{BadRequest}
 use Rattle.da_status.specs.Statuses.{status_kind, output}
 use Rattle.da_status.specs.Outcome.{Relation}
-use Rattle.da_status.specs.Judging.{first_bad, Judged}
-use Rattle.da_files.specs.Frames.{header_in, error_of}
-use Rattle.da_files.specs.Forms.{messages_judged}
+use Rattle.da_files.specs.Frames.{header_in}
 use Rattle.da_judging.specs.Keys.{key_file_in}
-use Rattle.da_judging.specs.Light.{events_in, GivesLight, Judges, HasOutput, Counted, Lights, JudgesOwn, LightOf, light_key_file, light_by_judged, LightByOf}
+use Rattle.da_judging.specs.Light.{events_in, GivesLight, Judges, HasOutput, Counted, Lights, JudgesOwn, LightOf, light_key_file, LightByOf}
 use Rattle.da_files.specs.Contents.{header_file, messages_file}
 use Rattle.da_status.proofs.EndLemmas.{IsAnswer, answer_output, status_answers}
-use Rattle.da_files.proofs.FormLemmas.{third_bad, over_is, judged_over, over_each}
+use Rattle.da_files.proofs.FormLemmas.{over_each}
 
 -- ---- the count
 
 -- a number isn't below another
-not_below : (a b : ℕ) → (a < b → ⊥) → nat_lt a b ≡ false
+pub not_below : (a b : ℕ) → (a < b → ⊥) → nat_lt a b ≡ false
 not_below a b h = grind (arith, nat_tests)
 
 -- the answer by whether the count is above the limit
 abbrev pub by_limit : Bool → Roots → List Cell → List Raw → Relation
 by_limit over header plan raws = Counted over (Judges header plan raws)
-
--- a count within the limit has a verdict
-pub lights_within : (key : List ℕ) (count : ℕ) (header : Roots) (raws : List Raw) → (draw_limit header.k < count → ⊥)
-    → Judges header (drawn_cells key header.k count) raws ≡ Lights key count header raws
-lights_within key count header raws within =
-    let is : nat_lt (draw_limit header.k) count ≡ false = not_below (draw_limit header.k) count within in
-    sym (ap (λ (b : Bool). by_limit b header (drawn_cells key header.k count) raws) is)
 
 -- ---- answers
 
@@ -87,7 +78,8 @@ pub lights_verdict : (key : List ℕ) (count : ℕ) (header : Roots) (plan : Lis
 lights_verdict key count header plan raws verdict within drawn is w status answers =
     let judged : Judges header (drawn_cells key header.k count) raws w status =
     (verdict, subst (λ (cells : List Cell). IsLight header cells (events_in raws) verdict) drawn is, answers) in
-    subst (λ (M : Relation). M w status) (lights_within key count header raws within) judged
+    subst (λ (b : Bool). by_limit b header (drawn_cells key header.k count) raws w status)
+    (sym (not_below (draw_limit header.k) count within)) judged
 
 -- ---- the header of a square
 
@@ -123,30 +115,6 @@ lights_own law header raws square key count w status own h =
     own h
 
 -- ---- a key in a file
-
-module _ (files : List (List ℕ)) (fine : first_bad 0 (messages_judged files) ≡ None) where
-  -- the first file that isn't in its form, by what the third one is
-  by_key : (read : Result (List ℕ) ℕ) → key_file_in (light_key_file files) ≡ read
-      → first_bad 0 (light_by_judged files) ≡ first_bad 2 (error_of read ∷ [])
-  by_key read is =
-      third_bad (error_of (header_in (header_file files))) (bad_frame (messages_file files))
-      (error_of (key_file_in (light_key_file files)) ∷ []) fine
-      ∙ ap (λ (r : Result (List ℕ) ℕ). first_bad 2 (error_of r ∷ [])) is
-
-  -- the third file is no key
-  pub light_no_key : (at : ℕ) → key_file_in (light_key_file files) ≡ Err at → first_bad 0 (light_by_judged files) ≡ Some (2, at)
-  light_no_key at bad = by_key (Err at) bad
-
-  -- the meaning of files that were read
-  pub light_by_is : (header : Roots) (messages key : List ℕ) (count : ℕ) → header_in (header_file files) ≡ Ok header
-      → messages ≡ messages_file files → key_file_in (light_key_file files) ≡ Ok key
-      → Lights key count header (frames_of messages) ≡ Judged (light_by_judged files) (LightByOf count files)
-  light_by_is header messages key count read here is =
-      ap (λ (bytes : List ℕ). Lights key count header (frames_of bytes)) here
-      ∙ over_is (λ (h : Roots). Lights key count h (frames_of (messages_file files))) (header_in (header_file files)) header
-      read
-      ∙ judged_over (λ (k : List ℕ). LightOf k count files) (light_by_judged files) (key_file_in (light_key_file files))
-      key (by_key (Ok key) is) is
 
 -- what light answers to a key in a file is an answer
 pub light_by_answers : (count : ℕ) (files : List (List ℕ)) (w : List ℕ) (status : Status)

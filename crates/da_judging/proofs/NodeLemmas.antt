@@ -11,20 +11,12 @@ use Rattle.da_judging.specs.Light.{event_in, events_in}
 
 -- ---- events
 
--- an event that is there stands in front
-with_event : (o : Option Event) (later : List Event) (event : Event) → o ≡ Some event
-    → option_map_or (λ e. e ∷ later) o later ≡ event ∷ later
-with_event o later event here = ap (λ (x : Option Event). option_map_or (λ e. e ∷ later) x later) here
-
--- where there is none the later ones are left
-without_event : (o : Option Event) (later : List Event) → o ≡ None → option_map_or (λ e. e ∷ later) o later ≡ later
-without_event o later none = ap (λ (x : Option Event). option_map_or (λ e. e ∷ later) x later) none
-
--- the events among frames, by the first frame
-events_by : (rest after : List Raw) (frame : Raw) → rest ≡ frame ∷ after
-    → events_in rest ≡ option_map_or (λ e. e ∷ events_in after) (event_in frame) (events_in after)
+-- the events among frames, by what the first frame is
+events_by : (rest after : List Raw) (frame : Raw) (found : Option Event) → rest ≡ frame ∷ after → event_in frame ≡ found
+    → events_in rest ≡ option_map_or (λ e. e ∷ events_in after) found (events_in after)
 unfolding events_in
-events_by rest after frame next = ap events_in next
+events_by rest after frame found next is =
+    ap events_in next ∙ ap (λ (o : Option Event). option_map_or (λ e. e ∷ events_in after) o (events_in after)) is
 
 module _ {F : Type 0} (picks : F → ℕ → Cell → Type 0) (old : NodeParts F) (frames : List Raw) where
   -- a node that planned these cells and was handed nothing was handed all events but those of the rest since
@@ -40,8 +32,7 @@ module _ {F : Type 0} (picks : F → ℕ → Cell → Type 0) (old : NodeParts F
       → Handed node rest → Handed new after
   handed_on node new rest after frame event next here step handed = λ plan stands.
       let so_far = handed plan stands in
-      let later : events_in rest ≡ event ∷ events_in after =
-      events_by rest after frame next ∙ with_event (event_in frame) (events_in after) event here in
+      let later : events_in rest ≡ event ∷ events_in after = events_by rest after frame (Some event) next here in
       let parts : events_in frames ≡ (so_far.0 ++ event ∷ []) ++ events_in after =
       so_far.2 ∙ ap (λ (l : List Event). so_far.0 ++ l) later ∙ sym (append_snoc so_far.0 event (events_in after)) in
       (so_far.0 ++ event ∷ [], step plan so_far.0 so_far.1, parts)
@@ -52,8 +43,7 @@ module _ {F : Type 0} (picks : F → ℕ → Cell → Type 0) (old : NodeParts F
       → Handed node rest → Handed node after
   handed_past node rest after frame next none handed = λ plan stands.
       let so_far = handed plan stands in
-      let later : events_in rest ≡ events_in after =
-      events_by rest after frame next ∙ without_event (event_in frame) (events_in after) none in
+      let later : events_in rest ≡ events_in after = events_by rest after frame None next none in
       (so_far.0, so_far.1, so_far.2 ∙ ap (λ (l : List Event). so_far.0 ++ l) later)
 
   -- all frames were handed over

@@ -1,6 +1,8 @@
 -- What the command repair answers.
-use Rattle.std.proofs.Common.{◌≡◌, ◌≢◌, ◌∙◌, ℕ, false, List, [], ◌∷◌, Some, None, Result, Ok, Err, refl, sym, ap, ap₂, subst, inl, inr, ⊎_elim, ◌⊎◌}
+use Rattle.std.proofs.Common.{◌≡◌, ◌≢◌, ◌∙◌, ℕ, false, List, [], ◌∷◌, Some, None, refl, ap, subst, inl, inr, ⊎_elim, ◌⊎◌}
 use Rattle.std.specs.declared.option.Option.{Option}
+use Rattle.std.specs.Prelude.{◌==◌}
+use Rattle.std.specs.Option.{option_map_or}
 use Rattle.std.specs.List.{AllByRecursion}
 use Rattle.namespace_id.specs.Bytes.{AreBytes}
 use Rattle.namespace_id.specs.Cells.{CellList}
@@ -15,42 +17,34 @@ use Rattle.repair_queue.specs.Verdicts.{VerdictParts, whole, missing, fraud, cla
 use Rattle.repair_queue.specs.Answers.{verdict_parts, SomeNames}
 use Rattle.frame_payloads.specs.kinds.Clash.{has_empty}
 use Rattle.da_wire.specs.Reading.{Raw}
-use Rattle.da_wire.specs.Frames.{frames_of, bad_frame}
+use Rattle.da_wire.specs.Spelling.{message_kind}
+use Rattle.da_wire.specs.Frames.{frames_of, raw_message}
+use Rattle.frame_fields.specs.Messages.{message_at}
 use Rattle.da_wire.specs.Laws.{MessageIsSpelled}
 use Rattle.da_status.specs.declared.status.Status.{Status}
-use Rattle.da_status.specs.declared.status.Status.TheVariants.{BadInput}
 use Rattle.da_status.specs.Statuses.{status_kind, output}
-use Rattle.da_status.specs.Outcome.{Relation, Refuses}
-use Rattle.da_status.specs.Judging.{Judged}
-use Rattle.da_files.specs.Frames.{header_in, error_of}
-use Rattle.da_files.specs.Forms.{Over, messages_judged}
+use Rattle.da_files.specs.Frames.{header_in}
 use Rattle.da_judging.specs.Repair.{messages_in, lies_in, answer_status, GivesVerdict, Repairs, RepairsOwn, RepairOf}
 use Rattle.da_files.specs.Contents.{header_file, messages_file}
 use Rattle.da_files.proofs.FormLemmas.{over_each}
-use Rattle.da_judging.proofs.MessageLemmas.{messages_fit}
+use Rattle.da_judging.proofs.CheckLemmas.{in_grammar}
 use Rattle.da_judging.proofs.ClashLemmas.{found_full}
 
--- the answer by what the two files are
-abbrev pub answer_by : Result Roots ℕ → List Raw → Relation
-answer_by a raws = Over a (λ h. Repairs h raws)
+-- a sample in front of samples, where one is there
+messages_on : (o : Option sent.Message) (later : List sent.Message) → ((m : sent.Message) → o ≡ Some m → IsMessage m) → AllByRecursion IsMessage later
+    → AllByRecursion IsMessage (option_map_or (λ m. m ∷ later) o later)
+messages_on None later is all = all
+messages_on (Some m) later is all = (is m refl, all)
 
--- the meaning of repair by what HEADER is and where MESSAGES leaves its form
-abbrev repair_by : List (List ℕ) → Result Roots ℕ → Option ℕ → Relation
-repair_by files a b = Judged (error_of a ∷ b ∷ []) (answer_by a (frames_of (messages_file files)))
-
--- the meaning of a second file that isn't a list of frames
-pub repair_refuses : (files : List (List ℕ)) (h : Roots) (at : ℕ) → header_in (header_file files) ≡ Ok h → bad_frame (messages_file files) ≡ Some at
-    → Refuses (BadInput 1 at) ≡ Judged (messages_judged files) (RepairOf files)
-repair_refuses files h at read bad = sym (ap₂ (repair_by files) read bad)
-
--- the meaning of files that were read is what repair answers
-pub repair_is : (files : List (List ℕ)) (h : Roots) → header_in (header_file files) ≡ Ok h → bad_frame (messages_file files) ≡ None
-    → Repairs h (frames_of (messages_file files)) ≡ Judged (messages_judged files) (RepairOf files)
-repair_is files h read fine = sym (ap₂ (repair_by files) read fine)
-
--- the meaning of a first file that isn't a header
-pub repair_header : (files : List (List ℕ)) (at : ℕ) → header_in (header_file files) ≡ Err at → Refuses (BadInput 0 at) ≡ Judged (messages_judged files) (RepairOf files)
-repair_header files at read = sym (ap (λ (a : Result Roots ℕ). repair_by files a (bad_frame (messages_file files))) read)
+-- the samples among frames of bytes have the sizes of their type, by what is known of samples that were read
+pub messages_fit : MessageIsSpelled → (frames : List Raw) → AllByRecursion (λ (raw : Raw). AreBytes raw.payload) frames
+    → AllByRecursion IsMessage (messages_in frames)
+unfolding messages_in
+messages_fit spelled [] fits = tt
+messages_fit spelled (frame ∷ later) fits =
+    messages_on (raw_message frame) (messages_in later)
+    (λ m e. (spelled frame.payload m fits.0 (in_grammar (frame.kind == message_kind) (message_at frame.payload) m e)).0)
+    (messages_fit spelled later fits.1)
 
 -- each answer comes with a complete output
 answer_kind : (lies : ℕ) (verdict : VerdictParts) → status_kind (answer_status lies verdict) ≡ output

@@ -6,24 +6,17 @@ use Rattle.std.proofs.lemmas.Slice.Eq.{bytes_eq-Decides}
 use Rattle.data_header.specs.Headers.{Roots}
 use Rattle.data_header.specs.DataRoots.{data_root_of}
 use Rattle.da_status.specs.declared.status.Status.{Status}
-use Rattle.da_status.specs.declared.status.Status.TheVariants.{Done}
 use Rattle.da_status.specs.Statuses.{status_kind, output}
-use Rattle.da_status.specs.Outcome.{Relation}
-use Rattle.da_files.specs.Frames.{header_in, WritesText}
-use Rattle.da_files.specs.Lines.{root_line}
-use Rattle.da_judging.specs.Root.{root_refusal, Ties, RootOf, RootIsOf}
+use Rattle.da_files.specs.Frames.{header_in}
+use Rattle.da_judging.specs.Root.{root_refusal, TellsRoot, Ties, RootOf, RootIsOf}
 use Rattle.da_files.specs.Contents.{header_file}
 use Rattle.da_files.proofs.FormLemmas.{over_each}
 use Rattle.da_judging.proofs.VerifyLemmas.{verdict_kind}
 
--- the line of a header's data root
-abbrev pub Tells : Roots → Relation
-Tells header = WritesText Done (root_line (data_root_of header))
-
 -- what root answers comes with a complete output
 pub root_last : (files : List (List ℕ)) (w : List ℕ) (status : Status) → RootOf files w status → status_kind status ≡ output
 root_last files w status h =
-    over_each Tells (header_in (header_file files)) w status (status_kind status ≡ output) (λ header told. ap status_kind told.1) h
+    over_each TellsRoot (header_in (header_file files)) w status (status_kind status ≡ output) (λ header told. ap status_kind told.1) h
 
 -- so does what root with a ROOT answers
 pub root_is_last : (root : List ℕ) (files : List (List ℕ)) (w : List ℕ) (status : Status) → RootIsOf root files w status → status_kind status ≡ output

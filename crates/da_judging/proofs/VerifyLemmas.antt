@@ -1,5 +1,5 @@
 -- What the command verify answers.
-use Rattle.std.proofs.Common.{◌≡◌, ◌∙◌, ℕ, List, [], ◌∷◌, Some, None, refl, ap, subst}
+use Rattle.std.proofs.Common.{◌≡◌, ◌∙◌, ℕ, List, [], ◌∷◌, Some, None, refl, ap, subst, ◌⊎◌, ◌*◌, Bool, true, false, inl, inr}
 use Rattle.std.specs.Prelude.{◌↔◌}
 use Rattle.std.specs.declared.option.Option.{Option}
 use Rattle.std.specs.Option.{option_map}
@@ -9,7 +9,7 @@ use Rattle.square_layout.specs.Blocks.{SquareShares}
 use Rattle.axis_roots.specs.declared.message.messages.Message as sent
 use Rattle.axis_roots.specs.Messages.{message_refusal, IsMessage}
 use Rattle.axis_roots.specs.Openings.{IsProved}
-use Rattle.axis_roots.specs.Grids.{IsHeaderOf}
+use Rattle.axis_roots.specs.Grids.{IsHeaderOf, share_at}
 use Rattle.axis_roots.specs.Own.{IsOwn}
 use Rattle.axis_roots.proofs.Grids.HeaderLemmas.{header_roots}
 use Rattle.axis_roots.specs.Claims.{ClaimParts, Accepts, IsFalseClaim}
@@ -18,7 +18,7 @@ use Rattle.axis_roots.specs.Answers.{AreEntries}
 use Rattle.namespace_id.specs.declared.namespaces.Namespace as names
 use Rattle.namespace_id.specs.Names.{IsNamespace}
 use Rattle.square_serve.specs.Answers.{answer_refusal, IsComplete}
-use Rattle.square_serve.specs.Own.{IsOwnAnswer}
+use Rattle.square_serve.specs.Own.{IsOwnAnswer, ShowsAll, AnswerNames}
 use Rattle.befp_verify.specs.Refusals.{HasFraudCause}
 use Rattle.data_header.specs.DataRoots.{data_root_of}
 use Rattle.blob_commit.specs.Proofs.{RowParts, CommitParts, RootedParts, IsRow, IsCommit, IsRooted, CommitHolds, RootedHolds}
@@ -30,25 +30,59 @@ use Rattle.da_status.specs.declared.status.Status.{Status}
 use Rattle.da_status.specs.Statuses.{status_kind, output}
 use Rattle.da_judging.specs.declared.answers.Answer.{Answer}
 use Rattle.da_judging.specs.declared.answers.Answer.TheVariants.{Message, Names, Fraud, Commit, Rooted}
-use Rattle.da_judging.specs.Answers.{answer_frame}
+use Rattle.da_judging.specs.Answers.{answer_frame, IsAnswerTo}
 use Rattle.da_files.specs.Frames.{header_in}
 use Rattle.da_files.specs.Forms.{Over}
 use Rattle.da_judging.specs.Verify.{answer_file, check_number, ns_number, fraud_number, commit_number, rooted_number, IsAnswerRefusal, verdict_status, answer_in, IsOwnReply, Verifies, VerifyOf}
 use Rattle.da_files.specs.Contents.{header_file}
+use Rattle.da_status.specs.Outcome.{Relation}
 use Rattle.da_files.proofs.FormLemmas.{over_each}
+use Rattle.axis_roots.specs.declared.message.messages.CheckRefusal.{CheckRefusal}
+use Rattle.axis_roots.specs.declared.message.messages.CheckRefusal.TheVariants.{OutOfSquare, NodeCount, Unordered, OtherRoot}
+use Rattle.square_serve.specs.declared.checking.NsRefusal.{NsRefusal}
+use Rattle.square_serve.specs.declared.checking.NsRefusal.TheVariants as ns
+use Rattle.befp_verify.specs.declared.verifying.FraudRefusal.{FraudRefusal}
+use Rattle.befp_verify.specs.declared.verifying.FraudRefusal.TheVariants as fraud
+use Rattle.blob_commit.specs.declared.proving.CommitRefusal.{CommitRefusal}
+use Rattle.blob_commit.specs.declared.proving.CommitRefusal.TheVariants as commit
+use Rattle.blob_commit.specs.declared.rooting.RootedRefusal.{RootedRefusal}
+use Rattle.blob_commit.specs.declared.rooting.RootedRefusal.TheVariants as rooted
+use Rattle.da_judging.specs.declared.answers.Request.{Request}
+use Rattle.da_judging.specs.declared.answers.Request.TheVariants as asked
+use Rattle.da_judging.specs.VerifyFor.{request_file, request_in, IsRefusalFor, ShowsAsked, VerifiesFor, VerifyForOf}
+use Rattle.std.proofs.lemmas.Slice.Eq.{bytes_eq-Decides}
+use Rattle.da_judging.specs.VerifyCommitment.{states_commitment, StatesCommitment, VerifiesCommitment, VerifyCommitmentOf}
 
 -- a verdict comes with its output
 pub verdict_kind : (refusal : Option ℕ) → status_kind (verdict_status refusal) ≡ output
 verdict_kind None = refl
 verdict_kind (Some number) = refl
 
--- what verify answers comes with a complete output
+-- what is answered to a HEADER and an ANSWER comes with a complete output where what is answered to each of them does
+last_over : (Means : Roots → Answer → Relation) (files : List (List ℕ)) (w : List ℕ) (status : Status)
+    → ((header : Roots) (answer : Answer) → Means header answer w status → status_kind status ≡ output)
+    → Over (header_in (header_file files)) (λ header. Over (answer_in (answer_file files)) (Means header)) w status → status_kind status ≡ output
+last_over Means files w status each h =
+    over_each (λ header. Over (answer_in (answer_file files)) (Means header)) (header_in (header_file files)) w status (status_kind status ≡ output)
+    (λ header. over_each (Means header) (answer_in (answer_file files)) w status (status_kind status ≡ output) (each header)) h
+
+-- as what verify answers does
 pub verify_last : (files : List (List ℕ)) (w : List ℕ) (status : Status) → VerifyOf files w status → status_kind status ≡ output
-verify_last files w status h =
-    let Complete : Type 0 = status_kind status ≡ output in
-    over_each (λ header. Over (answer_in (answer_file files)) (λ answer. Verifies header answer)) (header_in (header_file files)) w status Complete
-    (λ header. over_each (λ answer. Verifies header answer) (answer_in (answer_file files)) w status Complete
-    (λ answer verdict. ap status_kind verdict.3 ∙ verdict_kind verdict.0)) h
+verify_last files w status h = last_over Verifies files w status (λ header answer verdict. ap status_kind verdict.3 ∙ verdict_kind verdict.0) h
+
+-- with a REQUEST, too
+pub verify_for_last : (files : List (List ℕ)) (w : List ℕ) (status : Status) → VerifyForOf files w status → status_kind status ≡ output
+verify_for_last files w status h =
+    let asked = request_in (request_file files) in
+    last_over (λ header answer. Over asked (VerifiesFor header answer)) files w status
+    (λ header answer. over_each (VerifiesFor header answer) asked w status (status_kind status ≡ output)
+    (λ request verdict. ap status_kind verdict.3 ∙ verdict_kind verdict.0)) h
+
+-- and with a COMMITMENT
+pub verify_commitment_last : (commitment : List ℕ) (files : List (List ℕ)) (w : List ℕ) (status : Status) → VerifyCommitmentOf commitment files w status
+    → status_kind status ≡ output
+verify_commitment_last commitment files w status h =
+    last_over (VerifiesCommitment commitment) files w status (λ header answer verdict. ap status_kind verdict.3 ∙ verdict_kind verdict.0) h
 
 -- ---- answers that aren't refused
 
@@ -58,21 +92,9 @@ none_numbered number None = (λ e. refl, λ e. refl)
 none_numbered number (Some why) = (λ e. absurd cc, λ e. absurd cc)
 
 -- there is no number of a refusal exactly where a fact holds, by what is known of the refusal
-none_where : {E : Type 0} (number : E → ℕ) (why : Option E) (Fact : Type 0) → (why ≡ None) ↔ Fact → (None ≡ option_map number why) ↔ Fact
+pub none_where : {E : Type 0} (number : E → ℕ) (why : Option E) (Fact : Type 0) → (why ≡ None) ↔ Fact → (None ≡ option_map number why) ↔ Fact
 none_where number why Fact refusal =
     let numbered = none_numbered number why in (λ e. refusal.0 (numbered.0 e), λ h. numbered.1 (refusal.1 h))
-
--- a sample isn't refused exactly where it is proved, by what is known of its refusals
-pub verified_proved : (header : Roots) (m : sent.Message) → (message_refusal header m ≡ None) ↔ IsProved header m
-    → IsAnswerRefusal header (Message m) None ↔ IsProved header m
-verified_proved header m refusal = none_where check_number (message_refusal header m) (IsProved header m) refusal
-
--- a namespace answer isn't refused exactly where it is complete, by what is known of its refusals
-pub verified_complete : (header : Roots) (name : names.Namespace) (answer : List NsEntry)
-    → (answer_refusal header name answer ≡ None) ↔ IsComplete header name answer
-    → IsAnswerRefusal header (Names name answer) None ↔ IsComplete header name answer
-verified_complete header name answer refusal =
-    none_where ns_number (answer_refusal header name answer) (IsComplete header name answer) refusal
 
 -- a fraud claim isn't refused exactly where it is accepted
 pub verified_accepted : (header : Roots) (claim : ClaimParts) → IsAnswerRefusal header (Fraud claim) None ↔ Accepts header claim
@@ -80,18 +102,6 @@ verified_accepted header claim = (
   λ refused. subst (HasFraudCause header claim) ((none_numbered fraud_number refused.0).0 refused.2) refused.1,
   λ accepted. (None, accepted, refl),
 )
-
--- a commitment proof isn't refused exactly where it holds, by what is known of its refusals
-pub verified_committed : (header : Roots) (proof : CommitParts) → (commit_refusal (data_root_of header) proof ≡ None) ↔ CommitHolds (data_root_of header) proof
-    → IsAnswerRefusal header (Commit proof) None ↔ CommitHolds (data_root_of header) proof
-verified_committed header proof refusal =
-    none_where commit_number (commit_refusal (data_root_of header) proof) (CommitHolds (data_root_of header) proof) refusal
-
--- a root proof isn't refused exactly where it holds, by what is known of its refusals
-pub verified_rooted : (header : Roots) (proof : RootedParts) → (rooted_refusal (data_root_of header) proof ≡ None) ↔ RootedHolds (data_root_of header) proof
-    → IsAnswerRefusal header (Rooted proof) None ↔ RootedHolds (data_root_of header) proof
-verified_rooted header proof refusal =
-    none_where rooted_number (rooted_refusal (data_root_of header) proof) (RootedHolds (data_root_of header) proof) refusal
 
 -- the rows of a commitment proof that was sent have their lengths
 rows_sized : (rows : List RowParts) → AllByRecursion IsRowSent rows → AllByRecursion IsRow rows
@@ -116,12 +126,100 @@ pub verified_own : ((h : Roots) (m : sent.Message) → AreRoots h → IsMessage 
     → (header : Roots) (answer : Answer) (square : SquareShares) → IsFrame (answer_frame answer) → IsHeaderOf header square → IsAnswerRefusal header answer None
     → IsOwnReply answer square
 verified_own refusal own refusals owns accused commits committed rooted shows header (Message m) square is of none =
-    own header m ((verified_proved header m (refusal header m (header_roots square header of) is)).0 none) square of
+    own header m ((none_where check_number (message_refusal header m) (IsProved header m) (refusal header m (header_roots square header of) is)).0 none) square of
 verified_own refusal own refusals owns accused commits committed rooted shows header (Names name answer) square is of none =
-    owns header name answer is.0 is.1 ((verified_complete header name answer (refusals header name answer)).0 none) square of
+    owns header name answer is.0 is.1 ((none_where ns_number (answer_refusal header name answer) (IsComplete header name answer) (refusals header name answer)).0 none) square of
 verified_own refusal own refusals owns accused commits committed rooted shows header (Fraud claim) square is of none =
     accused header claim ((verified_accepted header claim).0 none) square of
 verified_own refusal own refusals owns accused commits committed rooted shows header (Commit proof) square is of none =
-    committed header proof (commit_sized proof is) ((verified_committed header proof (commits (data_root_of header) proof)).0 none) square of
+    committed header proof (commit_sized proof is) ((none_where commit_number (commit_refusal (data_root_of header) proof) (CommitHolds (data_root_of header) proof) (commits (data_root_of header) proof)).0 none) square of
 verified_own refusal own refusals owns accused commits committed rooted shows header (Rooted proof) square is of none =
-    shows header proof is.is ((verified_rooted header proof (rooted (data_root_of header) proof is.is.message)).0 none) square of
+    shows header proof is.is ((none_where rooted_number (rooted_refusal (data_root_of header) proof) (RootedHolds (data_root_of header) proof) (rooted (data_root_of header) proof is.is.message)).0 none) square of
+
+-- ---- answers that aren't refused, and those that aren't what is asked for
+
+-- an answer isn't refused exactly where it isn't without a test, and what the test says holds of it
+pub holds_by : (b : Bool) (Fact : Type 0) (header : Roots) (answer : Answer) → (b ≡ true) ↔ Fact
+    → IsRefusalFor b header answer None ↔ (IsAnswerRefusal header answer None × Fact)
+holds_by true Fact header answer test = (λ h. (h, test.0 refl), λ h. h.0)
+holds_by false Fact header answer test = (λ h. absurd cc, λ h. let e = test.1 h.1 in absurd cc)
+
+-- no check of a sample has the number 0
+check_some : (why : Option CheckRefusal) → Some 0 ≡ option_map check_number why → ⊥
+check_some None e = cc
+check_some (Some OutOfSquare) e = cc
+check_some (Some NodeCount) e = cc
+check_some (Some Unordered) e = cc
+check_some (Some OtherRoot) e = cc
+
+-- nor one of a namespace answer
+ns_some : (why : Option NsRefusal) → Some 0 ≡ option_map ns_number why → ⊥
+ns_some None e = cc
+ns_some (Some ns.Parity) e = cc
+ns_some (Some (ns.Rows i)) e = cc
+ns_some (Some (ns.Proof i why)) e = cc
+
+-- nor one of a fraud claim
+fraud_some : (why : Option FraudRefusal) → Some 0 ≡ option_map fraud_number why → ⊥
+fraud_some None e = cc
+fraud_some (Some fraud.Shape) e = cc
+fraud_some (Some (fraud.Cell i why)) e = cc
+fraud_some (Some (fraud.Set why)) e = cc
+fraud_some (Some fraud.AxisMatches) e = cc
+
+-- nor one of a commitment proof
+commit_some : (why : Option CommitRefusal) → Some 0 ≡ option_map commit_number why → ⊥
+commit_some None e = cc
+commit_some (Some commit.Shape) e = cc
+commit_some (Some (commit.Root i)) e = cc
+commit_some (Some (commit.Nodes i why)) e = cc
+commit_some (Some commit.Commitment) e = cc
+
+-- nor one of a root proof
+rooted_some : (why : Option RootedRefusal) → Some 0 ≡ option_map rooted_number why → ⊥
+rooted_some None e = cc
+rooted_some (Some rooted.Shape) e = cc
+rooted_some (Some rooted.Root) e = cc
+rooted_some (Some (rooted.Path why)) e = cc
+
+-- no answer is refused by the number 0
+never_zero : (header : Roots) (answer : Answer) → IsAnswerRefusal header answer (Some 0) → ⊥
+never_zero header (Message m) h = check_some (message_refusal header m) h
+never_zero header (Names name answer) h = ns_some (answer_refusal header name answer) h
+never_zero header (Fraud claim) h = fraud_some h.0 h.2
+never_zero header (Commit proof) h = commit_some (commit_refusal (data_root_of header) proof) h
+never_zero header (Rooted proof) h = rooted_some (rooted_refusal (data_root_of header) proof) h
+
+-- an answer is refused by the number 0 exactly where it fails the test
+pub zero_by : (b : Bool) (header : Roots) (answer : Answer) → IsRefusalFor b header answer (Some 0) ↔ (b ≡ false)
+zero_by true header answer = (λ h. absurd (never_zero header answer h), λ e. absurd cc)
+zero_by false header answer = (λ e. refl, λ e. refl)
+
+-- the test of an answer is the plain equation
+pub states_is : (commitment : List ℕ) (answer : Answer) → (states_commitment commitment answer ≡ true) ↔ StatesCommitment commitment answer
+states_is commitment (Message m) = (λ e. absurd cc, λ h. absurd h)
+states_is commitment (Names name answer) = (λ e. absurd cc, λ h. absurd h)
+states_is commitment (Fraud claim) = (λ e. absurd cc, λ h. absurd h)
+states_is commitment (Commit proof) = bytes_eq-Decides proof.commitment commitment
+states_is commitment (Rooted proof) = (λ e. absurd cc, λ h. absurd h)
+
+-- ---- what answers to requests show
+
+-- an answer to a request that is the square's own shows what is asked for, or names a collision
+pub shows_asked : (request : Request) (answer : Answer) (square : SquareShares) → IsAnswerTo request answer → IsOwnReply answer square
+    → ShowsAsked request answer square
+shows_asked (asked.Sample cell axis) (Message m) square to (inl own) =
+    inl (record { grid = own.grid; extends = own.extends; at_cell = own.share ∙ ap (share_at (2 * square.k) own.grid) to.0 })
+shows_asked (asked.Sample cell axis) (Message m) square to (inr named) = inr named
+shows_asked (asked.Sample cell axis) (Names name answer) square to own = absurd to
+shows_asked (asked.Sample cell axis) (Fraud claim) square to own = absurd to
+shows_asked (asked.Sample cell axis) (Commit proof) square to own = absurd to
+shows_asked (asked.Sample cell axis) (Rooted proof) square to (inl own) =
+    inl (record { grid = own.grid; extends = own.extends; at_cell = own.share ∙ ap (share_at (2 * square.k) own.grid) to.0 })
+shows_asked (asked.Sample cell axis) (Rooted proof) square to (inr named) = inr named
+shows_asked (asked.Names name) (Message m) square to own = absurd to
+shows_asked (asked.Names name) (Names other answer) square to own =
+    subst (λ (n : names.Namespace). ShowsAll n square answer ⊎ AnswerNames n square answer) to own
+shows_asked (asked.Names name) (Fraud claim) square to own = absurd to
+shows_asked (asked.Names name) (Commit proof) square to own = absurd to
+shows_asked (asked.Names name) (Rooted proof) square to own = absurd to

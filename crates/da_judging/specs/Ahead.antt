@@ -1,5 +1,5 @@
 -- Digests of leaves that are known ahead of the frames whose samples show them.
-use Rattle.std.specs.Prelude.{◌≡◌, ℕ, List, [], ◌∷◌, Option, Some, None}
+use Rattle.std.specs.Prelude.{◌≡◌, ℕ, List, [], ◌∷◌, Option, Some, IfSome}
 use Rattle.namespace_id.specs.declared.digests.Digest.{Digest}
 use Rattle.axis_roots.specs.declared.message.messages.Message as sent
 use Rattle.axis_roots.specs.Messages.{shown_leaf}
@@ -17,8 +17,7 @@ AreAhead k [] frames = Unit {0}
 AreAhead k (digest ∷ digests) [] = Unit {0}
 AreAhead k (digest ∷ digests) (frame ∷ frames) = IsLeafDigestOf k digest frame × AreAhead k digests frames
 
--- a digest is the one of the first frame, and others are those of the frames behind it; where there is
--- none there are no others
+-- a digest, if there is one, is that of the leaf which the first frame shows, and others are those of the frames behind it
 abbrev pub IsNextAhead : ℕ → Option Digest → List Digest → List Raw → Type 0
-IsNextAhead k None digests frames = digests ≡ []
-IsNextAhead k (Some digest) digests frames = AreAhead k (digest ∷ digests) frames
+IsNextAhead k leaf digests frames = (frame : Raw) (after : List Raw) → frames ≡ frame ∷ after
+    → IfSome leaf (λ digest. IsLeafDigestOf k digest frame) × AreAhead k digests after

@@ -9,13 +9,12 @@ use Rattle.befp_verify.specs.declared.compacting.Compacted.{Compacted}
 use Rattle.befp_verify.specs.declared.compacting.Compacted.TheVariants as made
 use Rattle.befp_verify.specs.Refusals.{HasFraudCause}
 use Rattle.befp_verify.specs.Compacting.{IsCompacted}
-use Rattle.da_wire.specs.declared.frames.Frame.{Frame}
 use Rattle.da_wire.specs.declared.frames.Frame.TheVariants as frames
 use Rattle.da_status.specs.declared.status.Status.{Status}
-use Rattle.da_status.specs.declared.status.Status.TheVariants.{Done, Clash, Refused}
+use Rattle.da_status.specs.declared.status.Status.TheVariants.{Clash, Refused}
 use Rattle.da_status.specs.Outcome.{Relation}
 use Rattle.da_files.specs.Contents.{file_of, header_file}
-use Rattle.da_files.specs.Frames.{header_in, claim_in, WritesWith, WritesText}
+use Rattle.da_files.specs.Frames.{header_in, claim_in, Writes, WritesWith, WritesText}
 use Rattle.da_files.specs.Forms.{Over}
 use Rattle.da_judging.specs.Verify.{fraud_number, verdict_line}
 
@@ -27,20 +26,15 @@ claim_file files = file_of files 1
 
 -- ---- answers
 
--- the frame of what a claim was made into: a claim, or the collision that two of its cells name
-abbrev pub made_frame : Compacted → Frame
-made_frame (made.Claim claim) = frames.Fraud claim
-made_frame (made.Clash clash) = frames.Clash clash
-
--- the status that goes with it
-abbrev pub made_status : Compacted → Status
-made_status (made.Claim claim) = Done
-made_status (made.Clash clash) = Clash
+-- the output is the frame of what a claim was made into: a claim, or the collision that two of its cells name
+abbrev pub WritesMade : Compacted → Relation
+WritesMade (made.Claim claim) = Writes (frames.Fraud claim)
+WritesMade (made.Clash clash) = WritesWith Clash (frames.Clash clash)
 
 -- the output is the frame of what a claim is made into that is accepted under the header
 abbrev pub Compacts : Roots → ClaimParts → Relation
 Compacts header claim w status =
-    (one : Compacted) × IsCompacted header claim one × WritesWith (made_status one) (made_frame one) w status
+    (one : Compacted) × IsCompacted header claim one × WritesMade one w status
 
 -- a claim that no check refuses is made compact; of another the number of the check is told
 abbrev pub CompactsBy : Roots → ClaimParts → Option FraudRefusal → Relation

@@ -20,9 +20,13 @@ root_refusal header root = if bytes_eq (data_root_of header) root then None else
 abbrev pub Ties : List ℕ → Roots → Relation
 Ties root header = WritesText (verdict_status (root_refusal header root)) (verdict_line (root_refusal header root))
 
+-- the line of a header's data root
+abbrev pub TellsRoot : Roots → Relation
+TellsRoot header = WritesText Done (root_line (data_root_of header))
+
 -- what root answers to a HEADER that is a header: the line of its data root
 abbrev pub RootOf : List (List ℕ) → Relation
-RootOf files = Over (header_in (header_file files)) (λ header. WritesText Done (root_line (data_root_of header)))
+RootOf files = Over (header_in (header_file files)) TellsRoot
 
 -- what root answers to a HEADER that is a header and to a ROOT: whether this is its data root
 abbrev pub RootIsOf : List ℕ → List (List ℕ) → Relation

@@ -1,6 +1,5 @@
 -- verify HEADER ANSWER COMMITMENT: whether one answer is a proof of a commitment, and holds under a header.
 use Rattle.std.specs.Prelude.{◌≡◌, ℕ, List, Bool, false}
-use Rattle.std.specs.declared.option.Option.{Option}
 use Rattle.std.specs.Str.{bytes_eq}
 use Rattle.data_header.specs.Headers.{Roots}
 use Rattle.da_status.specs.Outcome.{Relation}
@@ -9,8 +8,8 @@ use Rattle.da_judging.specs.declared.answers.Answer.TheVariants.{Message, Names,
 use Rattle.da_files.specs.Contents.{header_file}
 use Rattle.da_files.specs.Frames.{header_in}
 use Rattle.da_files.specs.Forms.{Over}
-use Rattle.da_judging.specs.Verify.{answer_file, answer_in, verdict_line, verdict_status}
-use Rattle.da_judging.specs.VerifyFor.{IsRefusalFor}
+use Rattle.da_judging.specs.Verify.{answer_file, answer_in}
+use Rattle.da_judging.specs.VerifyFor.{VerifiesIf}
 
 -- whether an answer is a commitment proof that states this commitment
 abbrev pub states_commitment : List ℕ → Answer → Bool
@@ -30,9 +29,7 @@ StatesCommitment commitment (Rooted proof) = ⊥
 
 -- the line and the status of an answer to a commitment under a header
 abbrev pub VerifiesCommitment : List ℕ → Roots → Answer → Relation
-VerifiesCommitment commitment header answer w status =
-    (refusal : Option ℕ) × IsRefusalFor (states_commitment commitment answer) header answer refusal
-    × (w ≡ verdict_line refusal) × (status ≡ verdict_status refusal)
+VerifiesCommitment commitment header answer = VerifiesIf (states_commitment commitment answer) header answer
 
 -- what verify answers to a HEADER and an ANSWER in their forms and to a COMMITMENT
 abbrev pub VerifyCommitmentOf : List ℕ → List (List ℕ) → Relation

@@ -70,11 +70,14 @@ ShowsAsked (asked.Names name) (Rooted proof) square = ⊥
 abbrev pub verify_for_judged : List (List ℕ) → List (Option ℕ)
 verify_for_judged files = under_judged answer_in files ++ error_of (request_in (request_file files)) ∷ []
 
--- the line and the status of an answer to a request under a header
+-- the line and the status of an answer under a header, by whether it is what is asked for
+abbrev pub VerifiesIf : Bool → Roots → Answer → Relation
+VerifiesIf asked header answer w status =
+    (refusal : Option ℕ) × IsRefusalFor asked header answer refusal × (w ≡ verdict_line refusal) × (status ≡ verdict_status refusal)
+
+-- those of an answer to a request
 abbrev pub VerifiesFor : Roots → Answer → Request → Relation
-VerifiesFor header answer request w status =
-    (refusal : Option ℕ) × IsRefusalFor (is_answer_to request answer) header answer refusal
-    × (w ≡ verdict_line refusal) × (status ≡ verdict_status refusal)
+VerifiesFor header answer request = VerifiesIf (is_answer_to request answer) header answer
 
 -- what verify answers to a HEADER, an ANSWER and a REQUEST in their forms
 abbrev pub VerifyForOf : List (List ℕ) → Relation

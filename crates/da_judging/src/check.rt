@@ -111,6 +111,7 @@ fn list<O: Sink>(
 
 /// Answers to the samples in MESSAGES under the header in HEADER. All memory is taken before the first
 /// write.
+#[tactic(auto, using(da_files::proofs::FormLemmas::refused_once))]
 pub fn execute<O: Sink>(alloc: Global, files: &[Vec<u8>], out: &mut O) -> Status
     ensures { EndsAtOnce (Judged (messages_judged (contents_of files.now))
         (CheckOf (contents_of files.now))) (O.taken out.old) (O.taken out.new) (O.faults out.old)

@@ -1,61 +1,41 @@
 //! compact HEADER CLAIM: an accepted fraud claim with one proof of all its cells along the accused axis.
 
-ghost use Rattle.std.specs.Prelude.{◌≡◌, IsSome};
+ghost use Rattle.std.specs.Prelude.{◌≡◌};
 ghost use Rattle.axis_roots.specs.Claims.{ClaimParts, Accepts};
 ghost use Rattle.befp_verify.specs.Compacting.{IsCompacted};
-ghost use Rattle.da_wire.specs.Spelling.{spelling};
 ghost use Rattle.da_files.specs.Contents.{contents_of};
-ghost use Rattle.da_files.specs.Frames.{WritesWith, claim_in};
-ghost use Rattle.da_judging.specs.Compact.{made_frame, made_status, Compacts, CompactsJudged, CompactOf};
+ghost use Rattle.da_files.specs.Frames.{claim_in};
+ghost use Rattle.da_judging.specs.Compact.{WritesMade, Compacts, CompactsJudged, CompactOf};
 ghost use Rattle.da_files.specs.Forms.{under_judged};
 ghost use Rattle.da_status.specs.Judging.{Judged};
-ghost use Rattle.da_status.specs.Statuses.{status_kind, output};
 ghost use Rattle.da_status.specs.Outcome.{EndsAtOnce};
 
 use crate::verify::{fraud_number, verdict_line};
 use axis_roots::FraudClaim;
 use befp_verify::{Compacted, Upheld, VerifyRoom, verify};
-use da_files::{Unread, claim_frame, claim_in, clash_frame, file, give_with, one_header, put};
+use da_files::{
+    Unread, claim_frame, claim_in, clash_frame, file, give, give_with, one_header, put,
+};
 use da_io::Sink;
 use da_status::Status;
-use da_wire::Frame;
 use data_header::Header;
 use std::alloc::Global;
 
 /// The place of the last file among the words that name files.
 const CLAIM: u32 = 1;
 
-/// The status that goes with what a claim was made into.
-fn made_status(made: &Compacted) -> Status
-    ensures value { result ≡ made_status made.now }
-    ensures output { status_kind result ≡ output }
-{
-    match made {
-        Compacted::Claim(_) => Status::Done,
-        Compacted::Clash(_) => Status::Clash,
-    }
-}
-
-/// The frame of what a claim was made into that is accepted under a header.
-fn made_frame(header: &Header, made: Compacted) -> Frame
-    requires made { (claim : ClaimParts) × Accepts header.now claim × IsCompacted header.now claim made }
-    ensures value { result ≡ made_frame made }
-    ensures spelled { IsSome (spelling result) }
-{
-    match made {
-        Compacted::Claim(claim) => claim_frame(claim),
-        Compacted::Clash(clash) => clash_frame(clash),
-    }
-}
-
 /// Writes what a claim was made into that is accepted under a header.
 fn give_made<O: Sink>(alloc: Global, header: &Header, made: Compacted, out: &mut O) -> Status
     requires made { (claim : ClaimParts) × Accepts header.now claim × IsCompacted header.now claim made }
-    ensures { EndsAtOnce (WritesWith (made_status made) (made_frame made)) (O.taken out.old)
-        (O.taken out.new) (O.faults out.old) (O.faults out.new) (out.new ≡ out.old) result }
+    ensures { EndsAtOnce (WritesMade made) (O.taken out.old) (O.taken out.new) (O.faults out.old)
+        (O.faults out.new) (out.new ≡ out.old) result }
 {
-    let status = made_status(&made);
-    give_with(made_frame(header, made), status, &mut Vec::new(alloc), out)
+    match made {
+        Compacted::Claim(claim) => give(claim_frame(claim), &mut Vec::new(alloc), out),
+        Compacted::Clash(clash) => {
+            give_with(clash_frame(clash), Status::Clash, &mut Vec::new(alloc), out)
+        }
+    }
 }
 
 /// Writes what an accepted claim is made into. All memory is taken before the write.

@@ -16,13 +16,9 @@ pub mod light;
 mod repair;
 pub mod root;
 pub mod verify;
-pub mod verify_commitment;
-pub mod verify_for;
 
 pub use answers::{Answer, Request, is_answer_to};
 pub use check::Finding;
 pub use keys::read_key;
 pub use repair::give_verdict;
-pub use verify::{answer_in, check_number, refusal_of};
-pub use verify_commitment::states_commitment;
-pub use verify_for::{refusal_for, request_in};
+pub use verify::{answer_in, check_number, refusal_for, refusal_of, request_in, states_commitment};

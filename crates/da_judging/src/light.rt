@@ -193,6 +193,7 @@ fn light<O: Sink>(
 
 /// Answers what a light node that draws so many cells by the key comes to by the samples in MESSAGES
 /// under the header in HEADER.
+#[tactic(auto, using(da_files::proofs::FormLemmas::refused_once))]
 pub fn execute<O: Sink>(
     alloc: Global,
     files: &[Vec<u8>],

@@ -1,14 +1,11 @@
 //! root HEADER, root HEADER ROOT: the data root of a header, and whether it is a given one.
 
 ghost use Rattle.std.specs.Prelude.{◌≡◌};
-ghost use Rattle.data_header.specs.DataRoots.{data_root_of};
 ghost use Rattle.da_files.specs.Contents.{contents_of};
-ghost use Rattle.da_files.specs.Frames.{WritesText, header_in};
-ghost use Rattle.da_files.specs.Lines.{root_line};
-ghost use Rattle.da_judging.specs.Root.{root_refusal, RootOf, RootIsOf};
+ghost use Rattle.da_files.specs.Frames.{header_in};
+ghost use Rattle.da_judging.specs.Root.{root_refusal, TellsRoot, RootOf, RootIsOf};
 ghost use Rattle.da_files.specs.Forms.{single_judged};
 ghost use Rattle.da_status.specs.Judging.{Judged};
-ghost use Rattle.da_status.specs.declared.status.Status.TheVariants as StatusOf;
 ghost use Rattle.da_status.specs.Outcome.{EndsAtOnce};
 
 use crate::verify::give_line;
@@ -31,14 +28,14 @@ fn root_refusal(header: &Header, root: &[u8; 32]) -> Option<u64>
 
 /// Writes the line of a header's data root. It takes no memory.
 fn give_root<O: Sink>(header: &Header, out: &mut O) -> Status
-    ensures { EndsAtOnce (WritesText StatusOf.Done (root_line (data_root_of header.now)))
-        (O.taken out.old) (O.taken out.new) (O.faults out.old) (O.faults out.new)
-        (out.new ≡ out.old) result }
+    ensures { EndsAtOnce (TellsRoot header.now) (O.taken out.old) (O.taken out.new)
+        (O.faults out.old) (O.faults out.new) (out.new ≡ out.old) result }
 {
     put(hash_line(&data_root(header)).as_bytes(), Status::Done, out)
 }
 
 /// Answers the data root of the header in HEADER.
+#[tactic(auto, using(da_files::proofs::FormLemmas::refused_once, crate::proofs::OnceLemmas::once_single))]
 pub fn root<O: Sink>(alloc: Global, files: &[Vec<u8>], out: &mut O) -> Status
     ensures { EndsAtOnce (Judged (single_judged header_in (contents_of files.now))
         (RootOf (contents_of files.now))) (O.taken out.old) (O.taken out.new) (O.faults out.old)
@@ -51,6 +48,7 @@ pub fn root<O: Sink>(alloc: Global, files: &[Vec<u8>], out: &mut O) -> Status
 }
 
 /// Answers whether the header in HEADER has this data root.
+#[tactic(auto, using(da_files::proofs::FormLemmas::refused_once))]
 pub fn root_is<O: Sink>(alloc: Global, files: &[Vec<u8>], root: &[u8; 32], out: &mut O) -> Status
     ensures { EndsAtOnce (Judged (single_judged header_in (contents_of files.now))
         (RootIsOf root.now (contents_of files.now))) (O.taken out.old) (O.taken out.new)

@@ -1,24 +1,28 @@
-//! verify HEADER ANSWER: whether one answer holds under a header.
+//! verify HEADER ANSWER, verify HEADER ANSWER REQUEST, verify HEADER ANSWER COMMITMENT: whether one answer holds
+//! under a header, and is to a request or proves a commitment.
 
 ghost use Rattle.std.specs.Prelude.{◌≡◌, IfOk};
 ghost use Rattle.std.specs.Option.{option_map};
 ghost use Rattle.data_header.specs.DataRoots.{data_root_of};
 ghost use Rattle.blob_commit.specs.Refusals.{commit_refusal, rooted_refusal};
 ghost use Rattle.da_judging.specs.declared.answers.Answer.TheVariants as AnswerOf;
+ghost use Rattle.da_judging.specs.Answers.{is_answer_to};
 ghost use Rattle.da_files.specs.Contents.{contents_of};
 ghost use Rattle.da_files.specs.Frames.{ReadsSingle, WritesText};
-ghost use Rattle.da_judging.specs.Verify.{check_number, ns_number, fraud_number, commit_number, rooted_number, IsAnswerRefusal, verdict_line, verdict_status, answer_in, Verifies, VerifyOf};
+ghost use Rattle.da_judging.specs.Verify.{check_number, ns_number, fraud_number, commit_number, rooted_number, IsAnswerRefusal, verdict_line, verdict_status, answer_in, VerifyOf};
+ghost use Rattle.da_judging.specs.VerifyFor.{request_in, IsRefusalFor, VerifiesIf, verify_for_judged, VerifyForOf};
+ghost use Rattle.da_judging.specs.VerifyCommitment.{states_commitment, VerifyCommitmentOf};
 ghost use Rattle.da_files.specs.Forms.{under_judged};
 ghost use Rattle.da_status.specs.Judging.{Judged};
 ghost use Rattle.da_status.specs.Outcome.{EndsAtOnce};
 ghost use Rattle.da_status.specs.Statuses.{status_kind, output};
 
-use crate::answers::{Answer, answer_of};
+use crate::answers::{Answer, Request, answer_of, is_answer_to, request_of};
 use crate::forms::header_and_answer;
 use axis_roots::{CheckRefusal, FraudClaim, opens};
 use befp_verify::{FraudRefusal, VerifyRoom};
 use blob_commit::{CommitProof, CommitRefusal, RootedMessage, RootedRefusal, check_commit, rooted};
-use da_files::{Unread, put, reason};
+use da_files::{Unread, file, put, reason};
 use da_io::Sink;
 use da_status::{Line, Status, around};
 use da_wire::{read_only, wire_laws};
@@ -26,6 +30,9 @@ use data_header::{Header, data_root};
 use namespace_id::{NoMemory, bytes_law};
 use square_serve::{NsRefusal, check_namespace};
 use std::alloc::Global;
+
+/// The place of the last file among the words that name files.
+const REQUEST: u32 = 2;
 
 /// The answer that a file is.
 pub fn answer_in(alloc: Global, bytes: &[u8]) -> Result<Answer, Unread>
@@ -39,6 +46,32 @@ pub fn answer_in(alloc: Global, bytes: &[u8]) -> Result<Answer, Unread>
             None => Err(Unread::BadForm(0)),
         },
         Err(error) => Err(reason(error)),
+    }
+}
+
+/// The request that a file is.
+pub fn request_in(alloc: Global, bytes: &[u8]) -> Result<Request, Unread>
+    ensures { ReadsSingle result (request_in bytes.now) }
+{
+    wire_laws();
+    bytes_law(bytes);
+    match read_only(alloc, bytes, b"QP") {
+        Ok(frame) => match request_of(frame) {
+            Some(request) => Ok(request),
+            None => Err(Unread::BadForm(0)),
+        },
+        Err(error) => Err(reason(error)),
+    }
+}
+
+/// Whether an answer is a commitment proof that states this commitment, before any proof is looked at.
+/// It takes no memory.
+pub fn states_commitment(commitment: &[u8; 32], answer: &Answer) -> bool
+    ensures { result ≡ states_commitment commitment.now answer.now }
+{
+    match answer {
+        Answer::Commit(proof) => proof.commitment == *commitment,
+        Answer::Message(_) | Answer::Names(..) | Answer::Fraud(_) | Answer::Rooted(_) => false,
     }
 }
 
@@ -159,6 +192,36 @@ pub fn refusal_of(alloc: Global, header: &Header, answer: Answer) -> Result<Opti
     }
 }
 
+/// The number of the check that refuses an answer, by whether it is what is asked for; none of one that
+/// holds and is. It takes memory for a fraud claim alone.
+fn refusal_if(
+    asked: bool,
+    alloc: Global,
+    header: &Header,
+    answer: Answer,
+) -> Result<Option<u64>, NoMemory>
+    ensures { IfOk result (λ refusal. IsRefusalFor asked header.now answer refusal) }
+{
+    if !asked {
+        return Ok(Some(0));
+    }
+    refusal_of(alloc, header, answer)
+}
+
+/// The number of the check that refuses an answer to a request, none of one that holds. It takes
+/// memory for a fraud claim alone.
+pub fn refusal_for(
+    alloc: Global,
+    header: &Header,
+    answer: Answer,
+    request: &Request,
+) -> Result<Option<u64>, NoMemory>
+    ensures { IfOk result (λ refusal.
+        IsRefusalFor (is_answer_to request.now answer) header.now answer refusal) }
+{
+    refusal_if(is_answer_to(request, &answer), alloc, header, answer)
+}
+
 /// The line for an answer.
 #[tactic(auto, using(da_status::proofs::DigitLemmas::digits_fit))]
 pub(crate) fn verdict_line(refusal: Option<u64>) -> Line
@@ -193,13 +256,19 @@ pub(crate) fn give_line<O: Sink>(refusal: Option<u64>, out: &mut O) -> Status
     put(line.as_bytes(), verdict_status(refusal), out)
 }
 
-/// Writes the line for an answer under a header. Where there is no memory for a fraud claim nothing
-/// is written.
-fn verify<O: Sink>(alloc: Global, header: &Header, answer: Answer, out: &mut O) -> Status
-    ensures { EndsAtOnce (Verifies header.now answer) (O.taken out.old) (O.taken out.new)
+/// Writes the line for an answer under a header, by whether it is what is asked for. Where there is no
+/// memory for a fraud claim nothing is written.
+fn verify<O: Sink>(
+    asked: bool,
+    alloc: Global,
+    header: &Header,
+    answer: Answer,
+    out: &mut O,
+) -> Status
+    ensures { EndsAtOnce (VerifiesIf asked header.now answer) (O.taken out.old) (O.taken out.new)
         (O.faults out.old) (O.faults out.new) (out.new ≡ out.old) result }
 {
-    let Ok(refusal) = refusal_of(alloc, header, answer) else {
+    let Ok(refusal) = refusal_if(asked, alloc, header, answer) else {
         return Status::NoMemory;
     };
     give_line(refusal, out)
@@ -207,6 +276,7 @@ fn verify<O: Sink>(alloc: Global, header: &Header, answer: Answer, out: &mut O) 
 
 /// Answers whether the answer in ANSWER holds under the header in HEADER. All memory is taken before the
 /// write.
+#[tactic(auto, using(da_files::proofs::FormLemmas::refused_once))]
 pub fn execute<O: Sink>(alloc: Global, files: &[Vec<u8>], out: &mut O) -> Status
     ensures { EndsAtOnce (Judged (under_judged answer_in (contents_of files.now))
         (VerifyOf (contents_of files.now))) (O.taken out.old) (O.taken out.new) (O.faults out.old)
@@ -216,5 +286,57 @@ pub fn execute<O: Sink>(alloc: Global, files: &[Vec<u8>], out: &mut O) -> Status
         Ok(read) => read,
         Err(status) => return status,
     };
-    verify(alloc, &header, answer, out)
+    verify(true, alloc, &header, answer, out)
+}
+
+/// Answers whether the answer in ANSWER is to the request in REQUEST, and holds under the header in
+/// HEADER. All memory is taken before the write.
+pub fn execute_for<O: Sink>(alloc: Global, files: &[Vec<u8>], out: &mut O) -> Status
+    ensures { EndsAtOnce (Judged (verify_for_judged (contents_of files.now))
+        (VerifyForOf (contents_of files.now))) (O.taken out.old) (O.taken out.new)
+        (O.faults out.old) (O.faults out.new) (out.new ≡ out.old) result }
+{
+    let (header, answer) = match header_and_answer(alloc, files) {
+        Ok(read) => read,
+        Err(status) => return status,
+    };
+    match request_in(alloc, file(files, REQUEST)) {
+        Ok(request) => {
+            let asked = is_answer_to(&request, &answer);
+            let status = verify(asked, alloc, &header, answer, out);
+            drop(header);
+            status
+        }
+        Err(Unread::BadForm(at)) => {
+            drop(answer);
+            drop(header);
+            Status::BadInput(REQUEST, at)
+        }
+        Err(Unread::NoMemory) => {
+            drop(answer);
+            drop(header);
+            Status::NoMemory
+        }
+    }
+}
+
+/// Answers whether the answer in ANSWER is a proof of this commitment, and holds under the header in
+/// HEADER. All memory is taken before the write.
+#[tactic(auto, using(da_files::proofs::FormLemmas::refused_once))]
+pub fn execute_commitment<O: Sink>(
+    alloc: Global,
+    files: &[Vec<u8>],
+    commitment: &[u8; 32],
+    out: &mut O,
+) -> Status
+    ensures { EndsAtOnce (Judged (under_judged answer_in (contents_of files.now))
+        (VerifyCommitmentOf commitment.now (contents_of files.now))) (O.taken out.old)
+        (O.taken out.new) (O.faults out.old) (O.faults out.new) (out.new ≡ out.old) result }
+{
+    let (header, answer) = match header_and_answer(alloc, files) {
+        Ok(read) => read,
+        Err(status) => return status,
+    };
+    let asked = states_commitment(commitment, &answer);
+    verify(asked, alloc, &header, answer, out)
 }

@@ -25,10 +25,9 @@ use Rattle.da_cli.proofs.CellsLemmas.{cells_wanted}
 use Rattle.da_cli.proofs.NetLemmas.{nets_own}
 use Rattle.da_cli.proofs.RangeLemmas.{proves_own}
 use Rattle.da_judging.proofs.LightLemmas.{lights_own}
-use Rattle.da_judging.proofs.VerifyLemmas.{verified_proved, verified_complete, verified_accepted, verified_committed, verified_rooted, verified_own}
+use Rattle.da_judging.proofs.VerifyLemmas.{none_where, verified_accepted, verified_own, holds_by, zero_by, states_is}
 use Rattle.da_judging.proofs.AskedLemmas.{answers_to}
-use Rattle.da_judging.proofs.VerifyForLemmas.{asked_holds, asked_other}
-use Rattle.da_judging.proofs.VerifyCommitmentLemmas.{states_is, stated_holds, stated_other}
+use Rattle.da_judging.specs.Verify.{check_number, ns_number, commit_number, rooted_number}
 use Rattle.da_judging.proofs.RootLemmas.{tied}
 use Rattle.da_cli.proofs.laws.run_laws.Goals as goal
 
@@ -58,7 +57,7 @@ returns-clause-own c = λ header frame square bytes own found.
     c.message_laws.ensures.own own
 
 pub returns-clause-verified : goal.returns-clause-verified
-returns-clause-verified c = λ header message roots is. verified_proved header message (c.message_laws.ensures.refusal header message roots is)
+returns-clause-verified c = λ header message roots is. none_where check_number _ _ (c.message_laws.ensures.refusal header message roots is)
 
 pub returns-clause-own_answer : goal.returns-clause-own_answer
 returns-clause-own_answer c =
@@ -86,16 +85,16 @@ pub returns-clause-own_prove : goal.returns-clause-own_prove
 returns-clause-own_prove c = proves_own c.commit_laws.ensures.commit
 
 pub returns-clause-complete : goal.returns-clause-complete
-returns-clause-complete c = λ header name answer. verified_complete header name answer (c.answer_laws.ensures.refusal header name answer)
+returns-clause-complete c = λ header name answer. none_where ns_number _ _ (c.answer_laws.ensures.refusal header name answer)
 
 pub returns-clause-upheld : goal.returns-clause-upheld
 returns-clause-upheld c = verified_accepted
 
 pub returns-clause-committed : goal.returns-clause-committed
-returns-clause-committed c = λ header proof. verified_committed header proof (c.refusal_laws.ensures.commit (data_root_of header) proof)
+returns-clause-committed c = λ header proof. none_where commit_number _ _ (c.refusal_laws.ensures.commit (data_root_of header) proof)
 
 pub returns-clause-rooted_sample : goal.returns-clause-rooted_sample
-returns-clause-rooted_sample c = λ header proof is. verified_rooted header proof (c.refusal_laws.ensures.rooted (data_root_of header) proof is)
+returns-clause-rooted_sample c = λ header proof is. none_where rooted_number _ _ (c.refusal_laws.ensures.rooted (data_root_of header) proof is)
 
 pub returns-clause-answer_file : goal.returns-clause-answer_file
 returns-clause-answer_file c = answer_file c.wire_laws.ensures.only
@@ -153,19 +152,19 @@ returns-clause-headed_list c = λ transactions is none.
     (header.0, c.grid_laws.ensures.header own grid.0 header.0 square grid.1 header.1)
 
 pub returns-clause-asked : goal.returns-clause-asked
-returns-clause-asked c = asked_holds
+returns-clause-asked c = λ header answer request. holds_by _ _ header answer (answers_to request answer)
 
 pub returns-clause-asked_other : goal.returns-clause-asked_other
-returns-clause-asked_other c = asked_other
+returns-clause-asked_other c = λ header answer request. zero_by _ header answer
 
 pub returns-clause-answers : goal.returns-clause-answers
 returns-clause-answers c = answers_to
 
 pub returns-clause-stated : goal.returns-clause-stated
-returns-clause-stated c = stated_holds
+returns-clause-stated c = λ header answer commitment. holds_by _ _ header answer (states_is commitment answer)
 
 pub returns-clause-stated_other : goal.returns-clause-stated_other
-returns-clause-stated_other c = stated_other
+returns-clause-stated_other c = λ header answer commitment. zero_by _ header answer
 
 pub returns-clause-states : goal.returns-clause-states
 returns-clause-states c = states_is

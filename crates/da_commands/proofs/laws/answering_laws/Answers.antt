@@ -1,5 +1,5 @@
-use Rattle.da_judging.proofs.VerifyLemmas.{verified_own}
-use Rattle.da_judging.proofs.VerifyForLemmas.{asked_holds, shows_asked}
+use Rattle.da_judging.proofs.AskedLemmas.{answers_to}
+use Rattle.da_judging.proofs.VerifyLemmas.{verified_own, holds_by, shows_asked}
 use Rattle.da_commands.proofs.Answering.AllowedLemmas.{sample_allowed, root_proof_allowed, names_allowed}
 use Rattle.da_commands.proofs.laws.answering_laws.Goals as goal
 
@@ -15,7 +15,7 @@ returns-clause-namespace c = names_allowed
 -- such an answer is to the request, and isn't refused without it
 pub returns-clause-own : goal.returns-clause-own
 returns-clause-own c = λ header request answer square is of none.
-    let holds = (asked_holds header answer request).0 none in
+    let holds = (holds_by _ _ header answer (answers_to request answer)).0 none in
     shows_asked request answer square holds.1
     (verified_own c.message_laws.ensures.refusal c.message_laws.ensures.own c.answer_laws.ensures.refusal c.answer_laws.ensures.own
     c.claim_laws.ensures.own c.refusal_laws.ensures.commit c.commit_laws.ensures.commit c.refusal_laws.ensures.rooted c.commit_laws.ensures.rooted

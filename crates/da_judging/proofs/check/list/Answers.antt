@@ -1,14 +1,12 @@
-use Rattle.std.proofs.Common.{◌∙◌, ℕ, refl, ap, subst, rules}
+use Rattle.std.proofs.Common.{◌∙◌, ℕ, refl, ap, rules}
 use Rattle.data_header.specs.Headers.{Roots}
-use Rattle.nmt_tree.specs.Queues.{queued}
 use Rattle.da_io.specs.Faults.{count_on}
 use Rattle.da_wire.specs.Reading.{raw_seen}
 use Rattle.da_wire.specs.Frames.{frames_of}
-use Rattle.da_judging.specs.Ahead.{IsNextAhead}
 use Rattle.da_judging.specs.Check.{Lists, check_lines}
 use Rattle.da_status.proofs.WriteLemmas.{written_part, gathered_on, gathered_part}
 use Rattle.da_status.proofs.EndLemmas.{ends_in_fault, once_fault}
-use Rattle.da_judging.proofs.AheadLemmas.{new_ahead, next_shown, next_ahead}
+use Rattle.da_judging.proofs.AheadLemmas.{new_ahead}
 use Rattle.da_judging.proofs.CheckLemmas.{next_line, next_ok}
 use Rattle.da_judging.proofs.check.list.Goals as goal
 
@@ -36,10 +34,7 @@ loop-frame-init g c = record {
 -- the digest that is ahead is that of the leaf which the frame shows
 pub finding_of-finding-requires-clause-leaf : goal.finding_of-finding-requires-clause-leaf
 finding_of-finding-requires-clause-leaf g c =
-    next_shown c.args.header.now.k c.next_leaf-leaf.result (queued c.next_leaf-leaf.new.queue) (frames_of c.loop-frame.rest.now) (raw_seen c.in-Some.frame) (frames_of c.in-Some.after.now)
-    (subst (λ (k : ℕ). IsNextAhead k c.next_leaf-leaf.result (queued c.next_leaf-leaf.new.queue) (frames_of c.loop-frame.rest.now))
-    (ap (λ (h : Roots). h.k) c.header.view_is) c.next_leaf-leaf.ensures.next)
-    c.in-Some.ensures.frames
+    (rw (ap (λ (h : Roots). h.k) c.header.view_is) at c.next_leaf-leaf.ensures.next (raw_seen c.in-Some.frame) (frames_of c.in-Some.after.now) c.in-Some.ensures.frames).0
 
 pub loop-frame-preserved : goal.loop-frame-preserved
 loop-frame-preserved g c =
@@ -47,10 +42,7 @@ loop-frame-preserved g c =
     c.in-Some.ensures.frames c.finding_of-finding.ensures.value c.line_of.ensures in
     record {
       trees = c.finding_of-finding.ensures.kept ∙ c.next_leaf-leaf.ensures.kept ∙ c.loop-frame.invariant.trees;
-      ahead = next_ahead c.args.header.now.k c.next_leaf-leaf.result (queued c.next_leaf-leaf.new.queue) (frames_of c.loop-frame.rest.now) (raw_seen c.in-Some.frame) (frames_of c.in-Some.after.now)
-          (subst (λ (k : ℕ). IsNextAhead k c.next_leaf-leaf.result (queued c.next_leaf-leaf.new.queue) (frames_of c.loop-frame.rest.now))
-          (ap (λ (h : Roots). h.k) c.header.view_is) c.next_leaf-leaf.ensures.next)
-          c.in-Some.ensures.frames;
+      ahead = (rw (ap (λ (h : Roots). h.k) c.header.view_is) at c.next_leaf-leaf.ensures.next (raw_seen c.in-Some.frame) (frames_of c.in-Some.after.now) c.in-Some.ensures.frames).1;
       lines = gathered_on _ _ _ _ _ _ _ _ _ c.loop-frame.invariant.lines next c.in-Ok.ensures.taken;
       ok = c.loop-frame.invariant.ok
           ∙ next_ok c.args.header.now c.loop-frame.rest.now c.in-Some.after.now (raw_seen c.in-Some.frame) c.finding_of-finding.result c.loop-frame.all_ok c.is_ok-all_ok.result

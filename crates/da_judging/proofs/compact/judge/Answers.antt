@@ -1,5 +1,4 @@
-use Rattle.std.proofs.Common.{◌∙◌, ℕ, Some, None, ap, subst}
-use Rattle.axis_roots.specs.Claims.{ClaimParts}
+use Rattle.std.proofs.Common.{◌∙◌, ℕ, Some, None, ap}
 use Rattle.da_files.specs.Frames.{WritesText}
 use Rattle.da_judging.specs.Verify.{verdict_line}
 use Rattle.da_judging.specs.Compact.{Compacts, CompactsJudged}
@@ -11,7 +10,7 @@ use Rattle.da_judging.proofs.compact.judge.Goals as goal
 pub returns-in-Ok-verify : goal.returns-in-Ok-verify
 returns-in-Ok-verify g c =
     once_within (Compacts c.args.header.now c.in-Ok-verify.upheld) (CompactsJudged c.args.header.now c.args.claim) _ _ _ _ _ _
-    (λ w s compacts. (None, c.in-Ok-verify.ensures.cause, subst (λ (claim : ClaimParts). Compacts c.args.header.now claim w s) c.in-Ok-verify.ensures.upheld compacts)) c.give_compacted.ensures
+    (λ w s compacts. (None, c.in-Ok-verify.ensures.cause, rw c.in-Ok-verify.ensures.upheld at compacts)) c.give_compacted.ensures
 
 -- a check refuses it
 pub returns : goal.returns

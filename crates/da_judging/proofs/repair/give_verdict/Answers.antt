@@ -1,9 +1,5 @@
-use Rattle.std.proofs.Common.{◌∙◌, sym, ap}
+use Rattle.std.proofs.Common.{ap}
 use Rattle.repair_queue.specs.Answers.{verdict_parts}
-use Rattle.repair_queue.specs.Verdicts.{VerdictParts, whole, missing, fraud, clash}
-use Rattle.da_wire.specs.Spelling.{spelling}
-use Rattle.da_judging.specs.Repair.{GivesVerdict}
-use Rattle.da_status.proofs.EndLemmas.{once_within, once_as}
 use Rattle.da_judging.proofs.RepairLemmas.{verdict_full, verdict_some}
 use Rattle.da_judging.proofs.repair.give_verdict.Goals as goal
 
@@ -16,24 +12,16 @@ give_missing-requires g c = verdict_some c.args.header.now c.requires.0 c.args.v
 
 -- the output is the square
 pub returns-in-Whole : goal.returns-in-Whole
-returns-in-Whole g c =
-    once_as (GivesVerdict c.args.lies (whole c.in-Whole.square)) _ _ _ _ _ _ _ (ap (λ (v : VerdictParts). GivesVerdict c.args.lies v) (sym (ap verdict_parts c.in-Whole.is)))
-    (once_within _ (GivesVerdict c.args.lies (whole c.in-Whole.square)) _ _ _ _ _ _ (λ w s writes. (ap spelling (sym c.square_frame.ensures.value) ∙ writes.0, writes.1)) c.give.ensures)
+returns-in-Whole g c = rw c.in-Whole.is (rw c.square_frame.ensures.value at c.give.ensures)
 
 -- the output is the missing cells
 pub returns-in-Missing : goal.returns-in-Missing
-returns-in-Missing g c =
-    once_as (GivesVerdict c.args.lies (missing c.in-Missing.cells)) _ _ _ _ _ _ _ (ap (λ (v : VerdictParts). GivesVerdict c.args.lies v) (sym (ap verdict_parts c.in-Missing.is))) c.give_missing.ensures
+returns-in-Missing g c = rw c.in-Missing.is c.give_missing.ensures
 
 -- the output is the claim of the fraud proof
 pub returns-in-Fraud : goal.returns-in-Fraud
-returns-in-Fraud g c =
-    once_as (GivesVerdict c.args.lies (fraud c.in-Fraud.proof.claim)) _ _ _ _ _ _ _ (ap (λ (v : VerdictParts). GivesVerdict c.args.lies v) (sym (ap verdict_parts c.in-Fraud.is)))
-    (once_within _ (GivesVerdict c.args.lies (fraud c.in-Fraud.proof.claim)) _ _ _ _ _ _ (λ w s writes. writes) c.give_proof.ensures)
+returns-in-Fraud g c = rw c.in-Fraud.is c.give_proof.ensures
 
 -- the output is the collision
 pub returns-in-Clash : goal.returns-in-Clash
-returns-in-Clash g c =
-    let pair = c.in-Clash.clash in
-    once_as (GivesVerdict c.args.lies (clash pair.left pair.right)) _ _ _ _ _ _ _ (ap (λ (v : VerdictParts). GivesVerdict c.args.lies v) (sym (ap verdict_parts c.in-Clash.is)))
-    (once_within _ (GivesVerdict c.args.lies (clash pair.left pair.right)) _ _ _ _ _ _ (λ w s writes. (ap spelling (sym c.clash_frame.ensures.value) ∙ writes.0, writes.1)) c.give_with.ensures)
+returns-in-Clash g c = rw c.in-Clash.is (rw c.clash_frame.ensures.value at c.give_with.ensures)

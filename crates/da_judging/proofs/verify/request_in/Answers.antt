@@ -5,7 +5,7 @@ use Rattle.da_judging.specs.Answers.{request_of}
 use Rattle.da_judging.specs.VerifyFor.{request_kinds, request_in}
 use Rattle.da_files.proofs.FrameLemmas.{values_unread}
 use Rattle.da_judging.proofs.AskedLemmas.{request_there}
-use Rattle.da_judging.proofs.verify_for.request_in.Goals as goal
+use Rattle.da_judging.proofs.verify.request_in.Goals as goal
 
 -- memory ran out in place of a request alone
 pub returns-in-Err : goal.returns-in-Err
