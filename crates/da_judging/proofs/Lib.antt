@@ -1,4 +1,3 @@
-pub mod OnceLemmas
 pub mod AheadLemmas
 pub mod CheckLemmas
 pub mod ClashLemmas

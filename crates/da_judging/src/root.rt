@@ -35,7 +35,7 @@ fn give_root<O: Sink>(header: &Header, out: &mut O) -> Status
 }
 
 /// Answers the data root of the header in HEADER.
-#[tactic(auto, using(da_files::proofs::FormLemmas::refused_once, crate::proofs::OnceLemmas::once_single))]
+#[tactic(auto, using(da_files::proofs::FormLemmas::refused_once, da_files::proofs::FormLemmas::once_single))]
 pub fn root<O: Sink>(alloc: Global, files: &[Vec<u8>], out: &mut O) -> Status
     ensures { EndsAtOnce (Judged (single_judged header_in (contents_of files.now))
         (RootOf (contents_of files.now))) (O.taken out.old) (O.taken out.new) (O.faults out.old)

@@ -1,7 +1,7 @@
 use Rattle.da_files.specs.Contents.{contents_of}
 use Rattle.da_files.specs.Forms.{messages_judged}
 use Rattle.da_judging.specs.Check.{CheckOf}
-use Rattle.da_judging.proofs.OnceLemmas.{once_in, once_over}
+use Rattle.da_files.proofs.FormLemmas.{once_in, once_over}
 use Rattle.da_judging.proofs.check.execute.Goals as goal
 
 -- the files are the header and the frames that were read

@@ -3,8 +3,7 @@ use Rattle.da_files.specs.Contents.{contents_of}
 use Rattle.da_files.specs.Frames.{header_in, error_of, claim_in}
 use Rattle.da_files.specs.Forms.{single_judged, under_judged}
 use Rattle.da_judging.specs.Compact.{claim_file, CompactsJudged, CompactOf}
-use Rattle.da_files.proofs.FormLemmas.{refused_once, refused_more}
-use Rattle.da_judging.proofs.OnceLemmas.{last_fine, last_bad, once_in, once_over}
+use Rattle.da_files.proofs.FormLemmas.{refused_once, refused_more, last_fine, last_bad, once_in, once_over}
 use Rattle.da_judging.proofs.compact.execute.Goals as goal
 
 pub returns-in-Err : goal.returns-in-Err

@@ -4,8 +4,7 @@ use Rattle.da_files.specs.Frames.{error_of}
 use Rattle.da_files.specs.Forms.{messages_judged}
 use Rattle.da_judging.specs.Keys.{key_file_in}
 use Rattle.da_judging.specs.Light.{light_key_file, light_by_judged, LightByOf}
-use Rattle.da_files.proofs.FormLemmas.{refused_once, refused_more}
-use Rattle.da_judging.proofs.OnceLemmas.{last_fine, last_bad, once_in, once_over}
+use Rattle.da_files.proofs.FormLemmas.{refused_once, refused_more, last_fine, last_bad, once_in, once_over}
 use Rattle.da_judging.proofs.light.execute_by.Goals as goal
 
 pub returns-in-Err : goal.returns-in-Err

@@ -1,5 +1,5 @@
 use Rattle.da_judging.specs.Root.{Ties}
-use Rattle.da_judging.proofs.OnceLemmas.{once_single}
+use Rattle.da_files.proofs.FormLemmas.{once_single}
 use Rattle.da_judging.proofs.root.root_is.Goals as goal
 
 -- the line is that of the header's refusal

@@ -2,7 +2,7 @@ use Rattle.da_files.specs.Contents.{contents_of}
 use Rattle.da_files.specs.Forms.{under_judged}
 use Rattle.da_judging.specs.Verify.{answer_in}
 use Rattle.da_judging.specs.VerifyCommitment.{VerifiesCommitment, VerifyCommitmentOf}
-use Rattle.da_judging.proofs.OnceLemmas.{once_in, once_over}
+use Rattle.da_files.proofs.FormLemmas.{once_in, once_over}
 use Rattle.da_judging.proofs.verify.execute_commitment.Goals as goal
 
 -- the files are the header and the answer that were read

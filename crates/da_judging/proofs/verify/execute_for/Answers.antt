@@ -4,8 +4,7 @@ use Rattle.da_files.specs.Frames.{error_of}
 use Rattle.da_files.specs.Forms.{under_judged}
 use Rattle.da_judging.specs.Verify.{answer_in}
 use Rattle.da_judging.specs.VerifyFor.{request_in, request_file, verify_for_judged, VerifiesFor, VerifyForOf}
-use Rattle.da_files.proofs.FormLemmas.{refused_once, refused_more}
-use Rattle.da_judging.proofs.OnceLemmas.{last_fine, last_bad, once_in, once_over}
+use Rattle.da_files.proofs.FormLemmas.{refused_once, refused_more, last_fine, last_bad, once_in, once_over}
 use Rattle.da_judging.proofs.verify.execute_for.Goals as goal
 
 pub returns-in-Err : goal.returns-in-Err
