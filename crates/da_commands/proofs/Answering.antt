@@ -2,5 +2,4 @@
 pub mod NetLemmas
 pub mod ShowLemmas
 pub mod DemoLemmas
-pub mod AllowedLemmas
 pub mod CellsLemmas

@@ -1,10 +1,7 @@
 //! cells HEADER KEY COUNT AXIS: the requests of a light node that has no messages yet, by a key
 //! that is a word or stands in a file.
 
-ghost use Rattle.std.specs.Prelude.{◌≡◌, ◌<◌, ◌^◌, [], IfOk, length, true};
-ghost use Rattle.std.specs.List.{list_all};
-ghost use Rattle.namespace_id.specs.Cells.{is_in_square};
-ghost use Rattle.light_node.specs.Events.{IsLight};
+ghost use Rattle.std.specs.Prelude.{◌≡◌};
 ghost use Rattle.da_files.specs.Contents.{contents_of};
 ghost use Rattle.da_files.specs.Frames.{header_in};
 ghost use Rattle.da_files.specs.Forms.{single_judged};
@@ -20,21 +17,12 @@ use da_serving::wanted::give_requests;
 use da_status::{Asked, Status};
 use data_header::Header;
 use light_node::Light;
-use namespace_id::{Axis, Cell, NoMemory};
+use namespace_id::Axis;
 use sampling::DrawError;
 use std::alloc::Global;
 
 /// The place of the file of the key among the words that name files.
 const KEY: u32 = 1;
-
-/// The verdict of a light node that planned these cells and has no messages yet.
-fn first_verdict(alloc: Global, header: &Header, planned: &[Cell]) -> Result<Light, NoMemory>
-    requires few { length planned.now < 2 ^ 32 }
-    requires inside { list_all (is_in_square header.now.k) planned.now ≡ true }
-    ensures { IfOk result (IsLight header.now planned.now []) }
-{
-    verdict(alloc, header, &[], planned)
-}
 
 /// Writes what is asked for after a verdict on no messages, along an axis. All memory is taken
 /// before the write.
@@ -71,7 +59,7 @@ fn cells<O: Sink>(
         Err(DrawError::TooMany) => return Status::BadRequest(Asked::Count),
         Err(DrawError::NoMemory) => return Status::NoMemory,
     };
-    match first_verdict(alloc, header, &planned) {
+    match verdict(alloc, header, &[], &planned) {
         Ok(light) => ask(alloc, light, axis, out),
         Err(_) => Status::NoMemory,
     }
@@ -79,6 +67,7 @@ fn cells<O: Sink>(
 
 /// Answers the requests along an axis for the cells that a light node wants first that draws so many
 /// by the key, under the header in HEADER. All memory is taken before the write.
+#[tactic(auto, using(da_files::proofs::FormLemmas::refused_once, da_files::proofs::FormLemmas::once_single))]
 pub(crate) fn execute<O: Sink>(
     alloc: Global,
     files: &[Vec<u8>],

@@ -7,6 +7,7 @@ ghost use Rattle.da_status.specs.declared.status.Status.TheVariants.{NoMemory};
 ghost use Rattle.da_commands.specs.Meaning.{Meaning, TakesFirst, IsRunnable};
 ghost use Rattle.da_status.specs.Outcome.{Ends};
 
+use crate::show::Form;
 use crate::{cells, demo, help, net, show};
 use da_exchanging::{ExportForm, ImportForm, export, import};
 use da_following::follow;
@@ -112,8 +113,8 @@ pub fn execute<O: Sink>(alloc: Global, command: Command, files: &[Vec<u8>], out:
         Command::Light(key, count) => light::execute(alloc, files, &key, count, out),
         Command::LightBy(count) => light::execute_by(alloc, files, count, out),
         Command::Net => net::execute(alloc, files, out),
-        Command::Show => show::show(alloc, files, out),
-        Command::Json => show::json(alloc, files, out),
+        Command::Show => show::execute(alloc, Form::Text, files, out),
+        Command::Json => show::execute(alloc, Form::Json, files, out),
         Command::Demo(number, k) => demo::execute(alloc, number, k, out),
         Command::VerifyCommitment(commitment) => {
             verify::execute_commitment(alloc, files, &commitment, out)

@@ -7,7 +7,7 @@ ghost use Rattle.da_wire.specs.declared.frames.Frame.{Frame as FrameOf};
 ghost use Rattle.da_wire.specs.Briefs.{brief_of};
 ghost use Rattle.da_wire.specs.Values.{values_of};
 ghost use Rattle.da_files.specs.Contents.{contents_of};
-ghost use Rattle.da_commands.specs.Show.{all_kinds, shown_as, shown_line, all_shown, ShowsFrames, show_judged, shown_file, ShowOf, JsonOf};
+ghost use Rattle.da_commands.specs.Show.{all_kinds, shown_as, shown_line, all_shown, ShowsFrames, show_judged, shown_file};
 ghost use Rattle.da_status.specs.declared.status.Status.TheVariants.{WriteFault};
 ghost use Rattle.da_status.specs.Judging.{Judged};
 ghost use Rattle.da_status.specs.Outcome.{Ends};
@@ -27,26 +27,19 @@ const KINDS: &[u8] = b"HSMNBKXQPVCRTEA";
 
 /// In which form a frame is shown.
 #[derive(Clone, Copy)]
-enum Form {
+pub(crate) enum Form {
     Text,
     Json,
-}
-
-/// What is shown of a frame.
-fn shown(alloc: Global, form: Form, frame: &Frame) -> Result<String, NoMemory>
-    ensures { IfOk result (λ text. string_bytes text ≡ shown_as form frame.now) }
-{
-    match form {
-        Form::Text => da_show::show(alloc, frame),
-        Form::Json => da_show::show_json(alloc, frame),
-    }
 }
 
 /// What is shown of a frame, ended by a line feed.
 fn line(alloc: Global, form: Form, frame: &Frame) -> Result<String, NoMemory>
     ensures { IfOk result (λ text. string_bytes text ≡ shown_line (shown_as form) frame.now) }
 {
-    let mut text = shown(alloc, form, frame)?;
+    let mut text = match form {
+        Form::Text => da_show::show(alloc, frame)?,
+        Form::Json => da_show::show_json(alloc, frame)?,
+    };
     match text.push('\n') {
         Ok(()) => Ok(text),
         Err(_) => Err(NoMemory),
@@ -173,7 +166,7 @@ fn list<O: Sink>(alloc: Global, form: Form, frames: &[u8], out: &mut O) -> Statu
 }
 
 /// Shows the frames in FILE, which is judged before the first line.
-fn judge<O: Sink>(alloc: Global, form: Form, files: &[Vec<u8>], out: &mut O) -> Status
+pub(crate) fn execute<O: Sink>(alloc: Global, form: Form, files: &[Vec<u8>], out: &mut O) -> Status
     ensures { Ends (Judged (show_judged (contents_of files.now))
         (ShowsFrames (shown_as form) (values_of all_kinds (shown_file (contents_of files.now)))))
         (O.taken out.old) (O.taken out.new) (O.faults out.old) (O.faults out.new)
@@ -184,22 +177,4 @@ fn judge<O: Sink>(alloc: Global, form: Form, files: &[Vec<u8>], out: &mut O) -> 
         return Status::BadInput(FILE, at);
     }
     list(alloc, form, frames, out)
-}
-
-/// Answers the text of each frame in FILE.
-pub(crate) fn show<O: Sink>(alloc: Global, files: &[Vec<u8>], out: &mut O) -> Status
-    ensures { Ends (Judged (show_judged (contents_of files.now)) (ShowOf (contents_of files.now)))
-        (O.taken out.old) (O.taken out.new) (O.faults out.old) (O.faults out.new)
-        (out.new ≡ out.old) result }
-{
-    judge(alloc, Form::Text, files, out)
-}
-
-/// Answers the JSON of each frame in FILE.
-pub(crate) fn json<O: Sink>(alloc: Global, files: &[Vec<u8>], out: &mut O) -> Status
-    ensures { Ends (Judged (show_judged (contents_of files.now)) (JsonOf (contents_of files.now)))
-        (O.taken out.old) (O.taken out.new) (O.faults out.old) (O.faults out.new)
-        (out.new ≡ out.old) result }
-{
-    judge(alloc, Form::Json, files, out)
 }

@@ -52,17 +52,6 @@ refused_more judged more (BadInput i at) bad = bad_front 0 judged more (i, at) b
 refused_more judged more NoMemory bad = tt
 refused_more judged more status bad = absurd bad
 
--- behind one file in its form the second is judged
-pub second_bad : (a : Option ℕ) (more : List (Option ℕ)) → first_bad 0 (a ∷ []) ≡ None → first_bad 0 (a ∷ more) ≡ first_bad 1 more
-second_bad None more fine = refl
-second_bad (Some at) more fine = absurd cc
-
--- behind two files in their forms the third is
-pub third_bad : (a b : Option ℕ) (more : List (Option ℕ)) → first_bad 0 (a ∷ b ∷ []) ≡ None → first_bad 0 (a ∷ b ∷ more) ≡ first_bad 2 more
-third_bad None None more fine = refl
-third_bad None (Some at) more fine = absurd cc
-third_bad (Some at) b more fine = absurd cc
-
 -- behind files in their forms one more in its form leaves all in their forms
 pub last_fine : (i : ℕ) (judged : List (Option ℕ)) (o : Option ℕ) → first_bad i judged ≡ None → o ≡ None → first_bad i (judged ++ o ∷ []) ≡ None
 last_fine i [] o fine is = ap (λ (b : Option ℕ). first_bad i (b ∷ [])) is

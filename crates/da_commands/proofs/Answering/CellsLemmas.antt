@@ -1,7 +1,6 @@
 -- What the command cells answers.
-use Rattle.std.proofs.Common.{◌≡◌, ◌∙◌, ℕ, ◌<◌, Bool, true, false, List, [], ◌∷◌, ◌++◌, None, Some, Result, Ok, Err, refl, sym, ap, subst, arith}
+use Rattle.std.proofs.Common.{◌≡◌, ℕ, ◌<◌, Bool, true, false, List, [], ◌∷◌, ◌++◌, refl, sym, ap, subst}
 use Rattle.std.specs.Prelude.{nat_lt}
-use Rattle.std.proofs.lemmas.Bool.Decides.{nat_tests}
 use Rattle.namespace_id.specs.declared.cells.Axis.{Axis}
 use Rattle.namespace_id.specs.declared.cells.Cell.{Cell}
 use Rattle.data_header.specs.Headers.{Roots}
@@ -17,16 +16,15 @@ use Rattle.da_status.specs.declared.status.Asked.TheVariants.{Count}
 use Rattle.da_status.specs.declared.status.Status.{Status}
 use Rattle.da_status.specs.declared.status.Status.TheVariants.{Done, BadRequest}
 use Rattle.da_status.specs.Statuses.{status_kind}
-use Rattle.da_status.specs.Judging.{first_bad, Judged}
 use Rattle.da_status.specs.Outcome.{Relation}
 use Rattle.da_status.proofs.EndLemmas.{IsAnswer, status_answers}
 use Rattle.da_files.specs.Contents.{header_file}
-use Rattle.da_files.specs.Frames.{header_in, error_of}
-use Rattle.da_files.specs.Forms.{single_judged}
-use Rattle.da_files.proofs.FormLemmas.{second_bad, over_is, judged_over, over_each}
+use Rattle.da_files.specs.Frames.{header_in}
+use Rattle.da_files.proofs.FormLemmas.{over_each}
 use Rattle.da_judging.specs.Keys.{key_file_in}
 use Rattle.da_judging.specs.Light.{events_in, Counted}
-use Rattle.da_commands.specs.Cells.{HasNoClaim, Asks, AsksPlanned, AsksFirst, CellsOf, cells_key_file, cells_by_judged, CellsByOf}
+use Rattle.da_judging.proofs.LightLemmas.{not_below}
+use Rattle.da_commands.specs.Cells.{HasNoClaim, Asks, AsksPlanned, AsksFirst, CellsOf, cells_key_file, CellsByOf}
 
 -- ---- no messages
 
@@ -47,10 +45,6 @@ no_claim header plan (light.Waiting cells) is = tt
 no_claim header plan (light.Rejected claim) is = some_between is.1 is.2 _ is.3
 
 -- ---- the count
-
--- a number isn't below another
-not_below : (a b : ℕ) → (a < b → ⊥) → nat_lt a b ≡ false
-not_below a b h = grind (arith, nat_tests)
 
 -- what is asked for, by whether the count is above the limit
 abbrev by_limit : Bool → Axis → Roots → List Cell → Relation
@@ -88,27 +82,6 @@ cells_answers key count axis files w status r =
     (λ h. limit_answers (nat_lt (draw_limit h.k) count) axis h (drawn_cells key h.k count) w status) r
 
 -- ---- a key in a file
-
-module _ (files : List (List ℕ)) (fine : first_bad 0 (single_judged header_in files) ≡ None) where
-  -- the first file that isn't in its form, by what the second one is
-  by_key : (read : Result (List ℕ) ℕ) → key_file_in (cells_key_file files) ≡ read
-      → first_bad 0 (cells_by_judged files) ≡ first_bad 1 (error_of read ∷ [])
-  by_key read is =
-      second_bad (error_of (header_in (header_file files))) (error_of (key_file_in (cells_key_file files)) ∷ []) fine
-      ∙ ap (λ (r : Result (List ℕ) ℕ). first_bad 1 (error_of r ∷ [])) is
-
-  -- the second file is no key
-  pub cells_no_key : (at : ℕ) → key_file_in (cells_key_file files) ≡ Err at → first_bad 0 (cells_by_judged files) ≡ Some (1, at)
-  cells_no_key at bad = by_key (Err at) bad
-
-  -- the meaning of files that were read
-  pub cells_by_is : (header : Roots) (key : List ℕ) (count : ℕ) (axis : Axis) → header_in (header_file files) ≡ Ok header
-      → key_file_in (cells_key_file files) ≡ Ok key
-      → AsksFirst axis key count header ≡ Judged (cells_by_judged files) (CellsByOf count axis files)
-  cells_by_is header key count axis read is =
-      over_is (AsksFirst axis key count) (header_in (header_file files)) header read
-      ∙ judged_over (λ (k : List ℕ). CellsOf k count axis files) (cells_by_judged files) (key_file_in (cells_key_file files))
-      key (by_key (Ok key) is) is
 
 -- what cells answers to a key in a file is an answer
 pub cells_by_answers : (count : ℕ) (axis : Axis) (files : List (List ℕ)) (w : List ℕ) (status : Status)

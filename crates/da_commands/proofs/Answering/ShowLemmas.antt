@@ -4,7 +4,7 @@ use Rattle.std.specs.declared.option.Option.{Option}
 use Rattle.std.specs.Option.{option_map, option_map_or}
 use Rattle.std.specs.List.{list_all}
 use Rattle.std.specs.Result.{is_ok}
-use Rattle.std.specs.Prelude.{◌-◌, ◌==◌, ◌&&◌, ◌||◌, slice_index, IfSome, MatchOption}
+use Rattle.std.specs.Prelude.{◌-◌, ◌==◌, ◌&&◌, ◌||◌, slice_index, IfSome}
 use Rattle.std.proofs.lemmas.Bool.{and_parts}
 use Rattle.std.proofs.lemmas.List.{length-append, length-drop}
 use Rattle.da_io.specs.Faults.{CountsFault}
@@ -19,31 +19,15 @@ use Rattle.da_wire.specs.Briefs.{brief_kinds, brief_of, brief_and_rest}
 use Rattle.da_wire.specs.Reading.{Raw, is_kind, raw_of, value_of, is_among, tested_raw}
 use Rattle.da_wire.specs.Frames.{ok_of}
 use Rattle.da_wire.specs.Walks.{walk_from}
-use Rattle.da_wire.specs.Values.{value_in, values_of, bad_value}
+use Rattle.da_wire.specs.Values.{value_in, values_of}
 use Rattle.da_wire.proofs.WalkLemmas.{walk_on}
 use Rattle.da_status.specs.declared.status.Status.{Status}
-use Rattle.da_status.specs.declared.status.Status.TheVariants.{Done, NoMemory, WriteFault, BadInput}
+use Rattle.da_status.specs.declared.status.Status.TheVariants.{Done, NoMemory, WriteFault}
 use Rattle.da_status.specs.Statuses.{status_kind}
-use Rattle.da_status.specs.Outcome.{Relation, Refuses, Ends}
-use Rattle.da_status.specs.Judging.{Judged}
-use Rattle.da_commands.specs.Show.{all_kinds, shown_line, shown_bytes, all_shown, shown_file, ShowsFrames, show_judged}
+use Rattle.da_status.specs.Outcome.{Ends}
+use Rattle.da_commands.specs.Show.{all_kinds, shown_line, shown_bytes, ShowsFrames}
 use Rattle.da_status.proofs.EndLemmas.{IsAnswer, status_answers, ends_output, ends_after}
 use Rattle.da_status.proofs.WriteLemmas.{Written}
-
--- ---- the file
-
-module _ (files : List (List ℕ)) (Answer : Relation) where
-  -- the meaning by where FILE leaves its form
-  abbrev meaning_by : Option ℕ → Relation
-  meaning_by bad = Judged (bad ∷ []) Answer
-
-  -- that of a file that isn't a list of frames
-  pub show_refuses : (at : ℕ) → bad_value all_kinds (shown_file files) ≡ Some at → Refuses (BadInput 0 at) ≡ Judged (show_judged files) Answer
-  show_refuses at bad = sym (ap meaning_by bad)
-
-  -- that of a list of frames is the answer
-  pub show_is : bad_value all_kinds (shown_file files) ≡ None → Answer ≡ Judged (show_judged files) Answer
-  show_is fine = sym (ap meaning_by fine)
 
 -- ---- the frames
 
@@ -163,21 +147,6 @@ some_by bytes (Some x) at some = subst (λ (o : Option (Frame × ℕ)). IsSome o
 
 pub brief_some : (bytes : List ℕ) → IsSome (brief_and_rest bytes) → IsSome (value_in all_kinds bytes)
 brief_some bytes some = some_by bytes (value_in brief_kinds bytes) refl some
-
--- ---- the next line
-
-module _ (shown : Frame → List ℕ) (bytes text : List ℕ) (found : Option (Bor (List ℕ))) where
-  -- what is known of the next line
-  abbrev Known : Option (Bor (List ℕ)) → Type 0
-  Known o = MatchOption o (values_of all_kinds bytes ≡ []) (λ (more : Bor (List ℕ)). all_shown shown bytes ≡ text ++ all_shown shown more.now)
-
-  -- where there was none, no frame is left
-  pub no_line : found ≡ None → Known found → values_of all_kinds bytes ≡ []
-  no_line is known = subst Known is known
-
-  -- the line that came is shown first
-  pub line_first : (more : Bor (List ℕ)) → found ≡ Some more → Known found → all_shown shown bytes ≡ text ++ all_shown shown more.now
-  line_first more is known = subst Known is known
 
 -- ---- endings
 

@@ -1,16 +1,17 @@
+use Rattle.std.proofs.Common.{refl}
+use Rattle.da_judging.specs.declared.answers.Answer.TheVariants.{Message, Names, Rooted}
 use Rattle.da_judging.proofs.AskedLemmas.{answers_to}
 use Rattle.da_judging.proofs.VerifyLemmas.{verified_own, holds_by, shows_asked}
-use Rattle.da_commands.proofs.Answering.AllowedLemmas.{sample_allowed, root_proof_allowed, names_allowed}
 use Rattle.da_commands.proofs.laws.answering_laws.Goals as goal
 
 pub returns-clause-sample : goal.returns-clause-sample
-returns-clause-sample c = sample_allowed
+returns-clause-sample c = λ square header cell axis frame allowed. (Message allowed.0, allowed.2, (allowed.1.cell, allowed.1.axis))
 
 pub returns-clause-prove : goal.returns-clause-prove
-returns-clause-prove c = root_proof_allowed
+returns-clause-prove c = λ square header cell axis frame allowed. (Rooted allowed.0, allowed.2, (allowed.1.cell, allowed.1.axis))
 
 pub returns-clause-namespace : goal.returns-clause-namespace
-returns-clause-namespace c = names_allowed
+returns-clause-namespace c = λ square header name frame allowed. (Names name allowed.0, allowed.2, refl)
 
 -- such an answer is to the request, and isn't refused without it
 pub returns-clause-own : goal.returns-clause-own

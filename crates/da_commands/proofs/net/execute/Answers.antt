@@ -10,11 +10,9 @@ use Rattle.da_files.specs.Contents.{contents_of, messages_file}
 use Rattle.da_files.specs.Frames.{WritesText}
 use Rattle.da_files.specs.Forms.{messages_judged}
 use Rattle.da_commands.specs.Net.{script_file, Nets, net_judged, NetOf}
-use Rattle.da_commands.specs.declared.command.Command.TheVariants.{Net}
-use Rattle.da_commands.specs.Meaning.{Meaning}
-use Rattle.da_status.proofs.EndLemmas.{once_as, once_within, once_request}
-use Rattle.da_files.proofs.FormLemmas.{refused_once, refused_more}
-use Rattle.da_commands.proofs.Answering.NetLemmas.{net_no_script, net_played, nets_told, nets_refused}
+use Rattle.da_status.proofs.EndLemmas.{once_within, once_request}
+use Rattle.da_files.proofs.FormLemmas.{refused_once, refused_more, last_fine, last_bad, once_in, once_over}
+use Rattle.da_commands.proofs.Answering.NetLemmas.{nets_told, nets_refused}
 use Rattle.da_commands.proofs.net.execute.Goals as goal
 
 pub returns-in-Err : goal.returns-in-Err
@@ -27,11 +25,11 @@ pub returns-in-Err-BadScript : goal.returns-in-Err-BadScript
 returns-in-Err-BadScript g c =
     let files = contents_of c.args.files.now in
     let read = c.in-Ok.read in
-    let script = c.file-script.result.now in
+    let plays = subst (λ (e : PlayError). Plays read.0 (frames_of read.1.now) c.file-script.result.now (Err e)) c.in-Err-BadScript.field-0-is c.in-Err-BadScript.ensures in
     refused_once (net_judged files) (NetOf files) _ _ _ (BadInput 2 c.in-Err-BadScript.at)
-    (net_no_script files read.0 read.1.now script c.in-Ok.ensures.judged c.in-Ok.ensures.header c.in-Ok.ensures.messages c.file-script.ensures c.in-Err-BadScript.at
-    (subst (λ (e : PlayError). Plays read.0 (frames_of read.1.now) script (Err e)) c.in-Err-BadScript.field-0-is c.in-Err-BadScript.ensures)) refl
+    (last_bad 0 (messages_judged files) _ c.in-Err-BadScript.at c.in-Ok.ensures.judged (rw (c.in-Ok.ensures.messages, c.file-script.ensures) at plays)) refl
 
+-- the files are those that were read, and the network is too large
 pub returns-in-Err-Nodes : goal.returns-in-Err-Nodes
 returns-in-Err-Nodes g c =
     let files = contents_of c.args.files.now in
@@ -40,9 +38,10 @@ returns-in-Err-Nodes g c =
     let script = c.file-script.result.now in
     let refused : Plays read.0 raws script (Err Large) =
     subst (λ (e : PlayError). Plays read.0 raws script (Err e)) c.in-Err-Nodes.field-0-is c.in-Err-Nodes.ensures in
-    let same = net_played files read.0 read.1.now script c.in-Ok.ensures.judged c.in-Ok.ensures.header c.in-Ok.ensures.messages c.file-script.ensures refused.0 in
-    once_as (Nets read.0 raws script) (Meaning Net files) _ _ _ _ _ _ same
-    (once_request _ _ _ _ (BadRequest Nodes) refl (nets_refused read.0 raws script refused.1) refl)
+    once_in (net_judged files) (NetOf files)
+    (last_fine 0 (messages_judged files) _ c.in-Ok.ensures.judged (rw (c.in-Ok.ensures.messages, c.file-script.ensures) at refused.0))
+    (once_over _ _ _ c.in-Ok.ensures.header (once_request _ _ _ _ (BadRequest Nodes) refl
+    (rw (c.in-Ok.ensures.messages, c.file-script.ensures) at (nets_refused read.0 raws script refused.1)) refl))
 
 -- all lines were made, and then written at once
 pub returns-in-Ok-play : goal.returns-in-Ok-play
@@ -51,10 +50,9 @@ returns-in-Ok-play g c =
     let read = c.in-Ok.read in
     let raws = frames_of read.1.now in
     let script = c.file-script.result.now in
-    let text = c.in-Ok-play.text.items in
-    let same = net_played files read.0 read.1.now script c.in-Ok.ensures.judged c.in-Ok.ensures.header c.in-Ok.ensures.messages c.file-script.ensures
-    c.in-Ok-play.ensures.0 in
-    once_as (Nets read.0 raws script) (Meaning Net files) _ _ _ _ _ _ same
-    (once_within (WritesText Done c.deref.result.now) (Nets read.0 raws script) _ _ _ _ _ _
-    (λ w status h. nets_told read.0 raws script text c.in-Ok-play.ensures.1 c.in-Ok-play.ensures.2 w status
-    (h.0 ∙ c.deref.ensures.value, h.1)) c.put.ensures)
+    let played = once_within (WritesText Done c.deref.result.now) (Nets read.0 raws script) _ _ _ _ _ _
+    (λ w status h. nets_told read.0 raws script c.in-Ok-play.text.items c.in-Ok-play.ensures.1 c.in-Ok-play.ensures.2 w status
+    (h.0 ∙ c.deref.ensures.value, h.1)) c.put.ensures in
+    once_in (net_judged files) (NetOf files)
+    (last_fine 0 (messages_judged files) _ c.in-Ok.ensures.judged (rw (c.in-Ok.ensures.messages, c.file-script.ensures) at c.in-Ok-play.ensures.0))
+    (once_over _ _ _ c.in-Ok.ensures.header (rw (c.in-Ok.ensures.messages, c.file-script.ensures) at played))

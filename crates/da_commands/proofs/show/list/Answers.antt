@@ -5,7 +5,7 @@ use Rattle.da_commands.specs.Show.{all_kinds, shown_as, all_shown, ShowsFrames}
 use Rattle.da_status.specs.declared.status.Status.TheVariants.{Done, NoMemory}
 use Rattle.da_status.proofs.WriteLemmas.{gathered_on, gathered_part}
 use Rattle.da_status.proofs.EndLemmas.{ends_in_fault}
-use Rattle.da_commands.proofs.Answering.ShowLemmas.{no_line, line_first, shows_done, shows_memory, shows_after}
+use Rattle.da_commands.proofs.Answering.ShowLemmas.{shows_done, shows_memory, shows_after}
 use Rattle.da_commands.proofs.show.list.Goals as goal
 
 -- no frame is left
@@ -14,7 +14,7 @@ returns-in_default-found g c =
     let shown = shown_as c.args.form in
     let frames = values_of all_kinds c.args.frames.now in
     let rest = c.loop-found.rest.now in
-    let none = no_line shown rest _ c.in-Ok.found c.in_default-found.is c.in-Ok.ensures.line in
+    let none = rw c.in_default-found.is at c.in-Ok.ensures.line in
     rw c.after-in_default-found.ensures (shows_after shown frames _ _ _ _ _ _ _ c.loop-found.room (all_shown shown rest) c.flush-in_default-found.result Done
     c.loop-found.invariant.shown c.loop-found.invariant.faults c.loop-found.invariant.told
     c.flush-in_default-found.ensures.told c.flush-in_default-found.ensures.taken c.flush-in_default-found.ensures.faults
@@ -34,7 +34,7 @@ returns-in_default g c =
 pub returns-in_default-add : goal.returns-in_default-add
 returns-in_default-add g c =
     let shown = shown_as c.args.form in
-    let first = line_first shown c.loop-found.rest.now _ c.in-Ok.found c.in-Some.more c.in-Some.is c.in-Ok.ensures.line in
+    let first = rw c.in-Some.is at c.in-Ok.ensures.line in
     let next = first ∙ ap (λ (l : List ℕ). l ++ all_shown shown c.in-Some.more.now) (sym c.as_bytes.ensures.value) in
     ends_in_fault (ShowsFrames shown (values_of all_kinds c.args.frames.now)) _ _ _ _ _ _ _ (refl, refl)
     (gathered_part _ _ _ _ _ _ _ _ c.loop-found.invariant.shown next c.in_default-add.ensures.taken)
@@ -44,7 +44,7 @@ returns-in_default-add g c =
 pub loop-found-preserved : goal.loop-found-preserved
 loop-found-preserved g c =
     let shown = shown_as c.args.form in
-    let first = line_first shown c.loop-found.rest.now _ c.in-Ok.found c.in-Some.more c.in-Some.is c.in-Ok.ensures.line in
+    let first = rw c.in-Some.is at c.in-Ok.ensures.line in
     let next = first ∙ ap (λ (l : List ℕ). l ++ all_shown shown c.in-Some.more.now) (sym c.as_bytes.ensures.value) in
     record {
       shown = gathered_on _ _ _ _ _ _ _ _ _ c.loop-found.invariant.shown next c.in-Ok-add.ensures.taken;
