@@ -13,7 +13,7 @@ use Rattle.blob_feed.proofs.ZipLemmas.{get_behind}
 use Rattle.da_following.specs.declared.heights.UnderWay.{UnderWay}
 use Rattle.da_following.specs.declared.heights.Way.{Way}
 use Rattle.da_following.specs.Follow.{places_at, places_from, IsToldOf, IsToldMore}
-use Rattle.da_following.specs.Heights.{said, first_said, said_at, AreSaid, read_at, fed_by, heights_left, AreKept, IsOnWay}
+use Rattle.da_following.specs.Heights.{said, first_said, said_at, AreSaid, read_at, fed_by, heights_left, KeepsAnswers, IsOnWay}
 use Rattle.da_following.proofs.FeedLineLemmas.{none_told, told_more}
 use Rattle.da_following.proofs.FeedStatusLemmas.{each_name}
 use Rattle.da_following.proofs.KeptLemmas.{or_none, said_more, said_other}
@@ -41,7 +41,7 @@ module _ (names : List Namespace) where
     before = [];
     parts = ap (λ (o : Option UnderWay). heights_left o [] items) (sym none);
     number = number;
-    kept = subst (AreKept names []) (sym none) tt;
+    kept = subst (KeepsAnswers names []) (sym none) tt;
     told = none_told (fed_by names (heights_of items)) names way.told empty zero;
   }
 
@@ -64,7 +64,7 @@ module _ (names : List Namespace) where
         let parts : all ≡ on.behind ++ height_with height.header on.before ∷ heights_of rest =
         on.parts ∙ ap (λ (o : Option UnderWay). on.behind ++ heights_left o on.before rest) is
         ∙ ap (λ (h : Height). on.behind ++ h ∷ heights_of rest) whole in
-        let kept = subst (AreKept names on.before) is on.kept in
+        let kept = subst (KeepsAnswers names on.before) is on.kept in
         (each_name (λ (name : Namespace). said_at height name ≡ option_map said (fed_by names all way.number name)) names).1
         (λ name found. kept name found ∙ fed_there on.behind (heights_of rest) height.header on.before name parts found
         ∙ ap (λ (n : ℕ). option_map said (fed_by names all n name)) (sym on.number))
@@ -83,7 +83,7 @@ module _ (names : List Namespace) where
               ∙ sym (append_assoc on.behind (last ∷ []) (heights_of rest))
               ∙ ap (λ (o : Option UnderWay). (on.behind ++ last ∷ []) ++ heights_left o [] rest) (sym closed);
           number = number ∙ sym long;
-          kept = subst (AreKept names []) (sym closed) tt;
+          kept = subst (KeepsAnswers names []) (sym closed) tt;
           told = subst (λ (n : ℕ). IsToldOf (fed_by names all) (places_from names 0 n) new.told) (sym long)
               (told_more (fed_by names all) names old.number old.told new.told
               (subst (λ (n : ℕ). IsToldOf (fed_by names all) (places_from names 0 n) old.told) (sym on.number) on.told) more);
@@ -101,7 +101,7 @@ module _ (names : List Namespace) where
           ∙ ap (λ (h : Roots). on.behind ++ height_with h (answers_ahead later) ∷ heights_of later) (sym begins)
           ∙ ap (λ (o : Option UnderWay). on.behind ++ heights_left o [] later) (sym is);
       number = number ∙ on.number;
-      kept = subst (AreKept names []) (sym is) (λ name found. empty name);
+      kept = subst (KeepsAnswers names []) (sym is) (λ name found. empty name);
       told = subst (IsToldOf (fed_by names all) (places_from names 0 (length on.behind))) (sym told) on.told;
     }
 
@@ -137,8 +137,8 @@ module _ (names : List Namespace) where
           ∙ ap (λ (o : Option UnderWay). on.behind ++ heights_left o (on.before ++ given ∷ []) later) (sym is);
       number = number ∙ on.number;
       kept =
-          let kept = subst (AreKept names on.before) was on.kept in
-          subst (AreKept names (on.before ++ given ∷ [])) (sym is)
+          let kept = subst (KeepsAnswers names on.before) was on.kept in
+          subst (KeepsAnswers names (on.before ++ given ∷ [])) (sym is)
           (λ name found. more name found ∙ ap (λ (o : Option (List ℕ)). option_or o (first_said before.header name (given ∷ []))) (kept name found)
           ∙ sym (said_more before.header name on.before given)
           ∙ ap (λ (h : Roots). first_said h name (on.before ++ given ∷ [])) (sym same));

@@ -52,8 +52,8 @@ heights_left (Some height) before rest =
     record { header = height.header; answers = before ++ answers_ahead rest } ∷ heights_of rest
 
 -- what is kept of the height under way, if there is one, is what these answers say of these namespaces
-abbrev pub AreKept : List Namespace → List NamedAnswer → Option UnderWay → Type 0
-AreKept names answers height = IfSome height (λ (h : UnderWay). (name : Namespace) → list_any (is_name name) names ≡ true
+abbrev pub KeepsAnswers : List Namespace → List NamedAnswer → Option UnderWay → Type 0
+KeepsAnswers names answers height = IfSome height (λ (h : UnderWay). (name : Namespace) → list_any (is_name name) names ≡ true
     → said_at h name ≡ first_said h.header name answers)
 
 -- the heights of a run that are behind were told, and what is kept of the height under way is what its answers
@@ -63,7 +63,7 @@ pub record IsOnWay (names : List Namespace) (all : List Height) (way : Way) (res
   pub before : List NamedAnswer
   pub parts : all ≡ behind ++ heights_left way.height before rest
   pub number : way.number ≡ length behind
-  pub kept : AreKept names before way.height
+  pub kept : KeepsAnswers names before way.height
   pub told : IsToldOf (fed_by names all) (places_from names 0 (length behind)) way.told
 
 -- how many heights began: those behind, and that under way

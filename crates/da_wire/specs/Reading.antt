@@ -32,8 +32,8 @@ use Rattle.frame_payloads.specs.kinds.State.{state_at}
 -- ---- kinds
 
 -- the kinds of which there are values
-abbrev pub all_kinds : List Kind
-all_kinds =
+abbrev pub value_kinds : List Kind
+value_kinds =
     kinds.Header ∷ kinds.Square ∷ kinds.Message ∷ kinds.Names ∷ kinds.Fraud ∷ kinds.Missing ∷ kinds.Clash
     ∷ kinds.Sample ∷ kinds.Request ∷ kinds.Block ∷ kinds.Commit ∷ kinds.Rooted ∷ kinds.Transactions
     ∷ kinds.Refusal ∷ kinds.State ∷ []
@@ -45,7 +45,7 @@ kind_among (kind ∷ others) byte = if byte == kind_byte kind then Some kind els
 
 -- the kind that a byte is
 abbrev pub kind_at : ℕ → Option Kind
-kind_at byte = kind_among all_kinds byte
+kind_at byte = kind_among value_kinds byte
 
 -- whether there are values of this kind
 abbrev pub is_kind : ℕ → Bool

@@ -13,7 +13,7 @@ use Rattle.da_wire.specs.declared.frames.Frame.TheVariants.{Header, Square, Mess
 use Rattle.da_wire.specs.declared.kinds.Kind.{Kind}
 use Rattle.da_wire.specs.declared.kinds.Kind.TheVariants as kinds
 use Rattle.da_wire.specs.Spelling.{kind_byte, spelled, spelling, IsFrame}
-use Rattle.da_wire.specs.Reading.{all_kinds, kind_among, kind_at, value_of_kind, value_at}
+use Rattle.da_wire.specs.Reading.{value_kinds, kind_among, kind_at, value_of_kind, value_at}
 use Rattle.da_wire.specs.Writing.{kind_of}
 use Rattle.frame_payloads.proofs.Fields.Readers.{bind_some, map_some}
 use Rattle.da_wire.proofs.kinds.Form.{Spells, IsWritten, form_takes, form_written}
@@ -52,7 +52,7 @@ among_takes (kind ∷ others) byte found e = by_byte (eqb byte (kind_byte kind))
 
 -- a byte that is read as a kind is that kind's byte
 kind_takes : (byte : ℕ) (found : Kind) → kind_at byte ≡ Some found → byte ≡ kind_byte found
-kind_takes byte found e = among_takes all_kinds byte found e
+kind_takes byte found e = among_takes value_kinds byte found e
 
 -- ---- values
 
