@@ -13,11 +13,12 @@ use Rattle.da_wire.specs.Spelling.{message_kind}
 use Rattle.da_wire.specs.Reading.{Raw, promised}
 use Rattle.da_wire.specs.Frames.{frames_of, raw_message}
 use Rattle.frame_fields.specs.Messages.{message_at}
-use Rattle.da_wire.specs.StreamParts.{StreamParts, kept_front, under_way, is_long, front_message, IsStream, KeepsFront, IsTakenPiece}
-use Rattle.da_wire.specs.Streams.{StreamStands, IsPush, why_no_frame}
+use Rattle.frame_payloads.specs.kinds.Message.{most_message}
+use Rattle.da_wire.specs.StreamParts.{StreamParts, kept_front, under_way, is_long, front_message, front_frame, IsStream, KeepsFront, IsTakenPiece}
+use Rattle.da_wire.specs.Streams.{if_short, StreamStands, IsPush, why_no_frame}
 use Rattle.da_wire.proofs.RawLemmas.{frame_at}
 use Rattle.frame_payloads.proofs.MessageLengths.{message_at-long}
-use Rattle.da_wire.proofs.StreamLemmas.{IsReached, IsSeen, part_len, part_head, part_at, seen, stands_on, reached_long, reached_part, reached_whole, stands_next, none_not_long}
+use Rattle.da_wire.proofs.StreamLemmas.{IsReached, IsSeen, part_len, part_head, part_at, seen, stands_on, reached_long, reached_part, reached_whole, kept_told, stands_next, none_not_long}
 
 -- ---- the sample of a whole frame
 
@@ -71,11 +72,38 @@ message_same s bytes stands whole =
     kind (le-leb (5 + promised s.front) kept_front h) (ap message_at (payload_same s bytes stands whole h)))
     (cases_lt kept_front (5 + promised s.front))
 
+-- tests that are one
+both_tests : {A : Type 0} (a b : Bool) (x y : A) → a ≡ b → x ≡ y → cond a (Some x) None ≡ cond b (Some y) None
+both_tests true true x y e f = ap Some f
+both_tests false false x y e f = refl
+both_tests true false x y e f = absurd cc
+both_tests false true x y e f = absurd cc
+
+-- the frame in the room is the whole frame, where it is short
+frame_same : (s : StreamParts) (bytes : List ℕ) → StreamStands s bytes → under_way s ≡ 5 + promised s.front → if_short (frame_at (drop s.at bytes)) ≡ front_frame s.front
+frame_same s bytes stands whole =
+    let raw : Raw = frame_at (drop s.at bytes) in
+    let p : ℕ = promised s.front in
+    let head : promised (drop s.at bytes) ≡ p = part_head s bytes stands (omega (arith, whole)) in
+    let long : length raw.payload ≡ p =
+    length-take-le (promised (drop s.at bytes)) (drop 5 (drop s.at bytes)) (omega (arith, head, whole, part_len s bytes stands, length-drop 5 (drop s.at bytes))) ∙ head in
+    ⊎_elim
+    (λ (h : kept_front < 5 + p).
+    ap (λ (b : Bool). cond b (Some raw) None) (lt-leb (length raw.payload) most_message (omega (arith, long, h)))
+    ∙ sym (ap (λ (b : Bool). cond b (Some (frame_at s.front)) None) (lt-leb (5 + p) kept_front h)))
+    (λ (h : 5 + p ≤ kept_front).
+    let same : raw ≡ frame_at s.front =
+    ap (λ (n : ℕ). record { kind = get_or (drop s.at bytes) 0 0; payload = raw.payload; size = 5 + n }) head
+    ∙ ap₂ (λ (n : ℕ) (l : List ℕ). record { kind = n; payload = l; size = 5 + p }) (sym (kind_same s bytes stands (omega (arith, whole)))) (sym (payload_same s bytes stands whole h)) in
+    both_tests (leb (length raw.payload) most_message) (leb (5 + p) kept_front) raw (frame_at s.front)
+    (le-leb (length raw.payload) most_message (omega (arith, long, h)) ∙ sym (le-leb (5 + p) kept_front h)) same)
+    (cases_lt kept_front (5 + p))
+
 -- ---- a push
 
 module _ (at taken : ℕ) (front new before piece : List ℕ) (count : ℕ) (stream : StreamParts) (same : record { at = at; taken = taken; front = front } ≡ stream)
     (is : IsStream (record { at = at; taken = taken; front = front })) (stands : StreamStands stream before) (counts : IsTakenPiece front new (taken - at) (length piece) count)
-    (keeps : KeepsFront (length front) front new (taken - at) (take count piece)) (fits : AreBytes piece) where
+    (none : count ≡ 0 → new ≡ front) (keeps : KeepsFront (length front) front new (taken - at) (take count piece)) (fits : AreBytes piece) where
   -- the stream before and after, and the bytes that it took
   abbrev old : StreamParts
   old = record { at = at; taken = taken; front = front }
@@ -96,8 +124,9 @@ module _ (at taken : ℕ) (front new before piece : List ℕ) (count : ℕ) (str
   -- the stream after a push stands for the bytes that it took too
   pub step_stands : StreamStands now bytes
   step_stands =
-      subst (λ (n : ℕ). StreamStands (record { at = at; taken = taken + n; front = new }) bytes) (length-take-le count piece counts.within)
-      (stands_on at taken front new before (take count piece) is.begun stood
+      let len : length (take count piece) ≡ count = length-take-le count piece counts.within in
+      subst (λ (n : ℕ). StreamStands (record { at = at; taken = taken + n; front = new }) bytes) len
+      (stands_on at taken front new before (take count piece) is.begun stood (λ e. none (sym len ∙ e))
       (subst (λ (n : ℕ). KeepsFront n front new (taken - at) (take count piece)) is.room keeps) (AreBytes-take count piece fits))
 
   -- the frames before the one under way stay
@@ -127,7 +156,10 @@ module _ (at taken : ℕ) (front new before piece : List ℕ) (count : ℕ) (str
   -- behind it the next begins
   pub step_next : is_long new (under_way now) ≡ false → 5 + promised new ≤ under_way now
       → StreamStands (record { at = taken + count; taken = taken + count; front = new }) bytes
-  step_next short enough = stands_next (taken + count) new bytes step_stands.fits step_stands.count (step_reached short enough).bad
+  step_next short enough =
+      let r = step_reached short enough in
+      stands_next (taken + count) new bytes step_stands.fits step_stands.count r.bad
+      (kept_told bytes (frames_of (take at bytes)) (frame_at (drop at bytes)) r.bad r.frames ∙ frame_same now bytes step_stands (step_whole short enough))
 
   -- a push that ended in a frame that is too long
   pub push_bad : is_long new (under_way now) ≡ true → IsPush before piece count (pushed.Bad at)

@@ -1,17 +1,19 @@
 -- A stream stands for the bytes that were taken, and they decide what it answers.
 use Rattle.std.proofs.Common.{◌≡◌, ◌∙◌, ℕ, ◌+◌, ◌-◌, ◌<◌, ◌≤◌, true, false, List, [], ◌∷◌, ◌++◌, length, take, drop, Option, None, Some, Ok, Err, refl, sym, ap, arith, length-append, length-drop, length-take-le, append-nil, ⊎_elim}
 use Rattle.std.proofs.lemmas.Bool.{cases_lt, cases_Bool, false≢true}
-use Rattle.std.proofs.lemmas.List.{take-append-le, drop-append-le, take-append-drop, take_all, drop_all}
+use Rattle.std.proofs.lemmas.List.{take-append-le, drop-append-le, take-append-drop, take_all, drop_all, nil_from_length}
 use Rattle.std.proofs.lemmas.Option.{some_pair_parts, none-some}
+use Rattle.std.specs.Option.{option_map_or}
 use Rattle.namespace_id.specs.Bytes.{AreBytes}
 use Rattle.namespace_id.proofs.StringLemmas.{AreBytes-none, AreBytes-append}
+use Rattle.frame_fields.specs.Fields.{◌>>=◌}
 use Rattle.da_wire.specs.declared.frames.FrameError.{FrameError}
 use Rattle.da_wire.specs.declared.frames.FrameError.TheVariants.{Truncated, TooLong}
 use Rattle.da_wire.specs.Reading.{Raw, promised, raw_of}
 use Rattle.da_wire.specs.Frames.{ok_of, raw_in, frames_of, bad_frame}
-use Rattle.da_wire.specs.Walks.{stop_from}
-use Rattle.da_wire.specs.StreamParts.{StreamParts, kept_front, under_way, is_long, IsUnfinished, KeepsFront}
-use Rattle.da_wire.specs.Streams.{StreamStands, err_of, refusal_at, why_no_frame}
+use Rattle.da_wire.specs.Walks.{walk_from, stop_from}
+use Rattle.da_wire.specs.StreamParts.{StreamParts, kept_front, under_way, is_long, front_frame, IsUnfinished, KeepsFront}
+use Rattle.da_wire.specs.Streams.{last_of, if_short, kept_frame, StreamStands, err_of, refusal_at, why_no_frame}
 use Rattle.frame_payloads.proofs.Fields.Readers.{map_some}
 use Rattle.da_wire.proofs.WalkLemmas.{walk_on, walk_stop, stop_on, stop_here, stop_end}
 use Rattle.da_wire.proofs.RawLemmas.{promised-take, raw_short, raw_long, raw_cut, raw_whole, frame_at, raw_of-append, ok_some}
@@ -103,6 +105,32 @@ reached_frame at bytes f h whole found some size =
       refusal = ap (refusal_at bytes) bad;
     }
 
+-- ---- the frame that ended
+
+-- the last of a list with one more is this one
+last_of-append : {A : Type 0} (xs : List A) (x : A) → last_of (xs ++ x ∷ []) ≡ Some x
+last_of-append [] x = refl
+last_of-append {A} (y ∷ xs) x = ap (λ (o : Option A). option_map_or Some o (Some y)) (last_of-append xs x)
+
+-- what is told of the frame that ended, by the first place at which none stands, and by the frames
+abbrev told : Option ℕ → List Raw → Option Raw
+told bad frames = ◌>>=◌ {A = Raw} (option_map_or (λ at. None) bad (last_of frames)) if_short
+
+-- of whole frames the last is told
+pub kept_told : (bytes : List ℕ) (before : List Raw) (frame : Raw) → bad_frame bytes ≡ None → frames_of bytes ≡ before ++ frame ∷ [] → kept_frame bytes ≡ if_short frame
+kept_told bytes before frame whole frames =
+    ap (λ (bad : Option ℕ). told bad (frames_of bytes)) whole ∙ ap (told None) frames
+    ∙ ap (λ (o : Option Raw). o >>= if_short) (last_of-append before frame)
+
+-- none is told where bytes are no whole frames
+pub kept_bad : (bytes : List ℕ) (at : ℕ) → bad_frame bytes ≡ Some at → kept_frame bytes ≡ None
+kept_bad bytes at bad = ap (λ (o : Option ℕ). told o (frames_of bytes)) bad
+
+-- nor where there are no bytes
+pub kept_none : (bytes : List ℕ) → length bytes ≡ 0 → kept_frame bytes ≡ None
+unfolding walk_from stop_from
+kept_none bytes none = ap kept_frame (nil_from_length bytes none)
+
 -- ---- a stream, and the bytes that it stands for
 
 -- the bytes of the frame under way are as many as the stream counts
@@ -173,11 +201,19 @@ seen s bytes begun unfinished stands =
 
 -- ---- bytes that are taken
 
+-- a stream that took no more bytes keeps the frame that ended
+kept_on : (at taken : ℕ) (front new bytes more : List ℕ) → at ≤ taken → StreamStands (record { at = at; taken = taken; front = front }) bytes → (length more ≡ 0 → new ≡ front)
+    → 0 < taken + length more → at ≡ taken + length more → kept_frame (bytes ++ more) ≡ front_frame new
+kept_on at taken front new bytes more begun stands same some ended =
+    let none : length more ≡ 0 = omega (arith, begun, ended) in
+    ap kept_frame (ap (λ (l : List ℕ). bytes ++ l) (nil_from_length more none) ∙ append-nil bytes)
+    ∙ stands.kept (omega (arith, some, none)) (omega (arith, ended, none)) ∙ ap front_frame (sym (same none))
+
 -- a stream with more bytes stands for these too
 pub stands_on : (at taken : ℕ) (front new bytes more : List ℕ) → at ≤ taken → StreamStands (record { at = at; taken = taken; front = front }) bytes
-    → KeepsFront kept_front front new (taken - at) more → AreBytes more
+    → (length more ≡ 0 → new ≡ front) → KeepsFront kept_front front new (taken - at) more → AreBytes more
     → StreamStands (record { at = at; taken = taken + length more; front = new }) (bytes ++ more)
-stands_on at taken front new bytes more begun stands keeps fits =
+stands_on at taken front new bytes more begun stands same keeps fits =
     let s : StreamParts = record { at = at; taken = taken; front = front } in
     let within : at ≤ length bytes = part_at s bytes begun stands in
     let sum : taken - at + length more ≡ taken + length more - at = omega (arith, begun) in
@@ -187,12 +223,13 @@ stands_on at taken front new bytes more begun stands keeps fits =
       whole = ap bad_frame (take-append-le at bytes more within) ∙ stands.whole;
       front = ap (take kept_front) (drop-append-le at bytes more within) ∙ keeps (drop at bytes) (part_len s bytes stands) stands.front
           ∙ ap (λ (n : ℕ). take n new) sum;
+      kept = λ some ended. kept_on at taken front new bytes more begun stands same some ended;
     }
 
 -- a new stream stands for no bytes
 pub stands_new : (front : List ℕ) → StreamStands (record { at = 0; taken = 0; front = front }) []
 unfolding stop_from
-stands_new front = record { fits = AreBytes-none; count = refl; whole = refl; front = refl }
+stands_new front = record { fits = AreBytes-none; count = refl; whole = refl; front = refl; kept = λ some ended. absurd (omega (arith, some)) }
 
 -- the frame under way, all of it
 pub whole_frame : (s : StreamParts) (bytes : List ℕ) → StreamStands s bytes → is_long s.front (under_way s) ≡ false → under_way s ≡ 5 + promised s.front
@@ -210,9 +247,9 @@ reached_whole s bytes begun stands short whole =
     (omega (arith, head)) (omega (arith, head, whole, stands.count, begun))
 
 -- behind it the next begins
-pub stands_next : (taken : ℕ) (front bytes : List ℕ) → AreBytes bytes → taken ≡ length bytes → bad_frame bytes ≡ None
+pub stands_next : (taken : ℕ) (front bytes : List ℕ) → AreBytes bytes → taken ≡ length bytes → bad_frame bytes ≡ None → kept_frame bytes ≡ front_frame front
     → StreamStands (record { at = taken; taken = taken; front = front }) bytes
-stands_next taken front bytes fits count whole =
+stands_next taken front bytes fits count whole kept =
     let all : take taken bytes ≡ bytes = take_all taken bytes (omega (arith, count)) in
     let none : taken - taken ≡ 0 = omega arith in
     record {
@@ -220,4 +257,15 @@ stands_next taken front bytes fits count whole =
       count = count;
       whole = ap bad_frame all ∙ whole;
       front = ap (take kept_front) (drop_all taken bytes (omega (arith, count))) ∙ sym (ap (λ (n : ℕ). take n front) none);
+      kept = λ some ended. kept;
     }
+
+-- ---- what is told of the frame that ended
+
+-- none is told where one is under way
+pub kept_under_way : (s : StreamParts) (bytes : List ℕ) → s.at < s.taken → IsUnfinished s.front (under_way s) → StreamStands s bytes → kept_frame bytes ≡ None
+kept_under_way s bytes begun unfinished stands =
+    ⊎_elim
+    (λ (h : is_long s.front (under_way s) ≡ true). kept_bad bytes s.at (reached_long s bytes stands h).bad)
+    (λ (h : is_long s.front (under_way s) ≡ false). kept_bad bytes s.at (reached_part s bytes stands begun h (unfinished h)).bad)
+    (cases_Bool (is_long s.front (under_way s)))

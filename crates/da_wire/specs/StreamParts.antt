@@ -1,11 +1,11 @@
 -- What a stream of frames keeps.
-use Rattle.std.specs.Prelude.{◌≡◌, ℕ, ◌+◌, ◌++◌, true, false, ◌-◌, ◌<◌, ◌≤◌, List, length, take, drop, slice_index, nat_le, nat_lt, ◌&&◌, ◌==◌, Bool, Option, None, if◌then◌else◌}
+use Rattle.std.specs.Prelude.{◌≡◌, ℕ, ◌+◌, ◌++◌, true, false, ◌-◌, ◌<◌, ◌≤◌, List, length, take, drop, slice_index, nat_le, nat_lt, ◌&&◌, ◌==◌, Bool, Option, Some, None, if◌then◌else◌}
 use Rattle.da_wire.specs.Spelling.{message_kind}
 use Rattle.frame_payloads.specs.Payloads.{max_payload}
 use Rattle.axis_roots.specs.declared.message.messages.Message.{Message}
 use Rattle.frame_fields.specs.Messages.{message_at}
 use Rattle.frame_payloads.specs.kinds.Message.{most_message}
-use Rattle.da_wire.specs.Reading.{promised}
+use Rattle.da_wire.specs.Reading.{Raw, promised}
 
 -- how many bytes of a frame are kept: the head, and the greatest payload of a sample
 abbrev pub kept_front : ℕ
@@ -35,6 +35,17 @@ abbrev pub front_message : List ℕ → Option Message
 front_message front =
     if (slice_index front 0 == message_kind) && nat_le (5 + promised front) kept_front
     then message_at (take (promised front) (drop 5 front))
+    else None
+
+-- the frame in a room, none where it is longer than the room
+abbrev pub front_frame : List ℕ → Option Raw
+front_frame front =
+    if nat_le (5 + promised front) kept_front
+    then Some (record {
+      kind = slice_index front 0;
+      payload = take (promised front) (drop 5 front);
+      size = 5 + promised front;
+    })
     else None
 
 -- what holds of each stream: the frame under way isn't whole, unless it states a length above the limit

@@ -1,23 +1,45 @@
 -- Streams of frames: bytes that come in pieces, cut anywhere (docs/FORMATS.md, "Streams of frames").
-use Rattle.std.specs.Prelude.{◌≡◌, ◌↔◌, ℕ, ◌+◌, ◌<◌, List, [], ◌∷◌, ◌++◌, length, take, drop, map, ⊤, Option, Some, None, Result, Ok, Err}
+use Rattle.std.specs.Prelude.{◌≡◌, ◌↔◌, ℕ, ◌+◌, ◌<◌, nat_le, List, [], ◌∷◌, ◌++◌, length, take, drop, map, ⊤, if◌then◌else◌, Option, Some, None, Result, Ok, Err}
 use Rattle.std.specs.List.{flat_map}
+use Rattle.std.specs.Option.{option_map_or}
 use Rattle.namespace_id.specs.Bytes.{AreBytes}
 use Rattle.da_wire.specs.declared.frames.FrameError.{FrameError}
 use Rattle.da_wire.specs.declared.frames.FrameError.TheVariants.{Truncated, BadKind, TooLong, BadPayload, Trailing, NoMemory}
 use Rattle.axis_roots.specs.declared.message.messages.Message.{Message}
+use Rattle.frame_fields.specs.Fields.{◌>>=◌}
+use Rattle.frame_payloads.specs.kinds.Message.{most_message}
 use Rattle.da_wire.specs.declared.streams.Pushed.{Pushed}
 use Rattle.da_wire.specs.declared.streams.Pushed.TheVariants as pushed
 use Rattle.da_wire.specs.Reading.{Raw, raw_of}
 use Rattle.da_wire.specs.Frames.{frames_of, bad_frame, raw_message}
-use Rattle.da_wire.specs.StreamParts.{StreamParts, kept_front, under_way}
+use Rattle.da_wire.specs.StreamParts.{StreamParts, kept_front, under_way, front_frame}
+
+-- the last of a list, if there is one
+abbrev pub last_of : {A : Type 0} → List A → Option A
+last_of [] = None
+last_of (x ∷ xs) = option_map_or Some (last_of xs) (Some x)
+
+-- the frame that bytes end with, where they are whole frames, at least one
+abbrev pub last_frame : List ℕ → Option Raw
+last_frame bytes = option_map_or (λ at. None) (bad_frame bytes) (last_of (frames_of bytes))
+
+-- a frame, where its payload is no longer than the longest sample's
+abbrev pub if_short : Raw → Option Raw
+if_short frame = if nat_le (length frame.payload) most_message then Some frame else None
+
+-- what a stream of these bytes tells of the frame that they end with
+abbrev pub kept_frame : List ℕ → Option Raw
+kept_frame bytes = last_frame bytes >>= if_short
 
 -- a stream stands for the bytes that its pushes took: those before the frame under way are whole frames,
--- and of those after them it keeps as many as its room holds
+-- and of those after them it keeps as many as its room holds; where none is under way it keeps the frame
+-- that ended
 pub record StreamStands (stream : StreamParts) (bytes : List ℕ) : Type 0 where
   pub fits : AreBytes bytes
   pub count : stream.taken ≡ length bytes
   pub whole : bad_frame (take stream.at bytes) ≡ None
   pub front : take kept_front (drop stream.at bytes) ≡ take (under_way stream) stream.front
+  pub kept : 0 < stream.taken → stream.at ≡ stream.taken → kept_frame bytes ≡ front_frame stream.front
 
 -- why a reader refused
 abbrev pub err_of : {A E : Type 0} → Result A E → Option E
@@ -101,3 +123,8 @@ EveryCutting = (pushes : List Push) → ArePushes [] pushes → answered pushes 
 -- the frames of bytes stay whatever bytes follow
 abbrev pub FramesStay : Type 0
 FramesStay = (bytes more : List ℕ) → (later : List Raw) × (frames_of (bytes ++ more) ≡ frames_of bytes ++ later)
+
+-- what a stream tells of whole frames is the last of them, where it is short
+abbrev pub LastIsTold : Type 0
+LastIsTold = (bytes : List ℕ) (before : List Raw) (frame : Raw) → bad_frame bytes ≡ None → frames_of bytes ≡ before ++ frame ∷ []
+    → kept_frame bytes ≡ if_short frame

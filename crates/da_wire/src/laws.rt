@@ -30,7 +30,7 @@ ghost use Rattle.frame_payloads.specs.kinds.Refusal.{IsRefusal};
 ghost use Rattle.frame_payloads.specs.kinds.Rooted.{IsRootedSent};
 ghost use Rattle.frame_payloads.specs.kinds.Transactions.{transactions_payload};
 ghost use Rattle.da_wire.specs.Laws.{SpelledIsRead, ReadIsSpelled, OneSpelling, OnlyIsSpelled, SpelledIsOnly, MessageIsRead, MessageIsSpelled, RawIsFrame, FramesAreTheFile, FilesAreFrames, BadFrameIsFirst, ValuesAreTheFile, FilesAreValues, BadValueIsFirst};
-ghost use Rattle.da_wire.specs.Streams.{EveryCutting, FramesStay};
+ghost use Rattle.da_wire.specs.Streams.{EveryCutting, FramesStay, LastIsTold};
 
 use blob_commit::shape_laws;
 use frame_payloads::MAX_PAYLOAD;
@@ -104,10 +104,11 @@ pub fn value_laws()
 {}
 
 /// Over every cutting of a byte string a stream answers its frames, and the frames of bytes stay whatever
-/// bytes follow.
+/// bytes follow. What a stream tells of whole frames is the last of them.
 pub fn stream_laws()
     ensures cutting { EveryCutting }
     ensures stay { FramesStay }
+    ensures last { LastIsTold }
 {}
 
 /// The limits of payloads, as numbers.

@@ -7,13 +7,14 @@
 ghost use Rattle.std.specs.Prelude.{◌≡◌, ◌+◌, ◌-◌, ◌<◌, ◌≤◌, ◌^◌, ◌++◌, ℕ, List, [], length, take, min};
 ghost use Rattle.std.specs.Option.{option_map};
 ghost use Rattle.da_wire.specs.declared.streams.Pushed.TheVariants as pushed;
-ghost use Rattle.da_wire.specs.Reading.{promised};
-ghost use Rattle.da_wire.specs.StreamParts.{kept_front, is_long, front_message, IsUnfinished, KeepsFront, IsTakenPiece};
-ghost use Rattle.da_wire.specs.Streams.{StreamStands, IsPush, why_no_frame, offset_of};
+ghost use Rattle.namespace_id.specs.Answers.{Gives};
+ghost use Rattle.da_wire.specs.Reading.{promised, raw_seen};
+ghost use Rattle.da_wire.specs.StreamParts.{kept_front, is_long, front_message, front_frame, IsUnfinished, KeepsFront, IsTakenPiece};
+ghost use Rattle.da_wire.specs.Streams.{StreamStands, IsPush, kept_frame, why_no_frame, offset_of};
 ghost use Rattle.da_wire.specs.Frames.{bad_frame};
 
-use crate::FrameError;
 use crate::frames::HEAD_SIZE;
+use crate::{FrameError, RawFrame};
 use axis_roots::Message;
 use frame_fields::message;
 use frame_payloads::{MAX_PAYLOAD, MOST_MESSAGE};
@@ -60,6 +61,7 @@ impl Model for FrameStream {
 /// Copies bytes behind the first `have` of a room, as far as it holds them.
 fn keep(front: &mut [u8], have: u64, bytes: &[u8])
     ensures first { take have front.new ≡ take have front.old }
+    ensures none { length bytes.now ≡ 0 → front.new ≡ front.old }
     ensures kept { KeepsFront (length front.old) front.old front.new have bytes.now }
 {
     let size = front.len();
@@ -74,6 +76,7 @@ fn keep(front: &mut [u8], have: u64, bytes: &[u8])
 fn fill(front: &mut [u8], have: u64, goal: u64, bytes: &[u8]) -> usize
     ensures count { result ≡ min (length bytes.now) (goal - have) }
     ensures first { take have front.new ≡ take have front.old }
+    ensures none { result ≡ 0 → front.new ≡ front.old }
     ensures kept { KeepsFront (length front.old) front.old front.new have (take result bytes.now) }
 {
     let count = goal.saturating_sub(have).min(bytes.len() as u64) as usize;
@@ -104,6 +107,7 @@ fn take_some(front: &mut [u8], have: u64, piece: &[u8]) -> usize
     requires room { 5 ≤ length front.old }
     requires count { have + length piece.now < 2 ^ 64 }
     requires unfinished { IsUnfinished front.old have }
+    ensures none { result ≡ 0 → front.new ≡ front.old }
     ensures kept { KeepsFront (length front.old) front.old front.new have (take result piece.now) }
     ensures taken { IsTakenPiece front.old front.new have (length piece.now) result }
 {
@@ -130,6 +134,22 @@ fn message_of(front: &[u8]) -> Option<Message>
         return None;
     }
     message(&front[HEAD_SIZE..HEAD_SIZE + size])
+}
+
+/// The frame in a room, none where it is longer than the room.
+fn frame_of(front: &[u8]) -> Option<RawFrame<'_>>
+    requires { length front.now ≡ kept_front }
+    ensures { Gives (λ f. raw_seen f) result (front_frame front.now) }
+{
+    let size = stated(front) as usize;
+    if size > FRONT_SIZE - HEAD_SIZE {
+        return None;
+    }
+    Some(RawFrame {
+        kind: front[0],
+        payload: &front[HEAD_SIZE..HEAD_SIZE + size],
+        size: (HEAD_SIZE + size) as u64,
+    })
 }
 
 impl FrameStream {
@@ -174,6 +194,21 @@ impl FrameStream {
         }
         self.at = self.taken;
         (count, Pushed::Frame(message_of(&self.front)))
+    }
+
+    /// The frame that the bytes so far end with, none where they aren't whole frames, at least one, and none
+    /// where its payload is longer than the longest sample's. So it is the frame that the last push of a byte
+    /// or more answered. It takes no memory.
+    ///
+    /// docs/FORMATS.md, "Streams of frames".
+    pub fn last(&self) -> Option<RawFrame<'_>>
+        ensures { (bytes : List ℕ) → StreamStands self.now bytes →
+            Gives (λ f. raw_seen f) result (kept_frame bytes) }
+    {
+        if self.taken == 0 || self.at < self.taken {
+            return None;
+        }
+        frame_of(&self.front)
     }
 
     /// Why the bytes so far are no list of frames, as `raw` refuses the first that is none; none where they

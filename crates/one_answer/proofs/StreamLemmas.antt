@@ -3,7 +3,9 @@ use Rattle.std.proofs.Common.{◌≡◌, ◌∙◌, ◌⊎◌, ℕ, ◌+◌, ◌
 use Rattle.std.proofs.lemmas.Bool.{cases_lt, cases_eq}
 use Rattle.std.proofs.lemmas.List.{take-append-le, drop-append-le, append_cancel_left}
 use Rattle.std.proofs.lemmas.Option.{none-some}
+use Rattle.std.specs.Option.{option_map}
 use Rattle.std.proofs.Math.Seq.{take-add}
+use Rattle.namespace_id.specs.Answers.{Gives}
 use Rattle.namespace_id.specs.Bytes.{AreBytes}
 use Rattle.axis_roots.specs.declared.message.messages.Message.{Message}
 use Rattle.da_wire.specs.declared.frames.FrameError.{FrameError}
@@ -186,3 +188,12 @@ one_push before piece c d (pushed.Bad at) (pushed.Frame n) in_c in_d fits others
 one_push before piece c d (pushed.Bad at) (pushed.Bad here) in_c in_d fits others p q =
     ⊎_elim (λ (less : c < d). both_bad before piece c d at here (omega arith) fits p q)
     (λ (more : d ≤ c). turned c d (pushed.Bad at) (pushed.Bad here) (both_bad before piece d c here at more others q p)) (cases_lt c d)
+
+-- ---- the frame that a stream tells
+
+-- what gives one value gives it once
+pub one_last : {A B : Type 0} (view : A → B) (value : Option B) (r s : Option A) → Gives view r value → Gives view s value → option_map view r ≡ option_map view s
+one_last view value None None r_is s_is = refl
+one_last view value None (Some b) r_is s_is = absurd (none-some (view b) (sym r_is ∙ s_is))
+one_last view value (Some a) None r_is s_is = absurd (none-some (view a) (sym s_is ∙ r_is))
+one_last view value (Some a) (Some b) r_is s_is = sym r_is ∙ s_is

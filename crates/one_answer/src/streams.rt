@@ -1,9 +1,11 @@
 //! Of streams of frames.
 
 ghost use Rattle.std.specs.Prelude.{◌≡◌, ◌<◌, ◌+◌, ◌^◌, ℕ, List, length};
+ghost use Rattle.std.specs.Option.{option_map};
+ghost use Rattle.da_wire.specs.Reading.{raw_seen};
 ghost use Rattle.da_wire.specs.Streams.{StreamStands};
 
-use da_wire::{FrameError, FrameStream, Pushed};
+use da_wire::{FrameError, FrameStream, Pushed, RawFrame};
 
 /// Two streams that stand for the same bytes take one count of a piece, and answer one thing.
 pub fn push_twice(
@@ -18,6 +20,17 @@ pub fn push_twice(
     let first = one.push(piece);
     let second = other.push(piece);
     (first, second)
+}
+
+/// They tell one frame that ends there, or none.
+pub fn last_twice<'a>(
+    one: &'a FrameStream,
+    other: &'a FrameStream,
+) -> (Option<RawFrame<'a>>, Option<RawFrame<'a>>)
+    ensures { (bytes : List ℕ) → StreamStands one.now bytes → StreamStands other.now bytes →
+        option_map (λ f. raw_seen f) result.0 ≡ option_map (λ f. raw_seen f) result.1 }
+{
+    (one.last(), other.last())
 }
 
 /// They have one refusal of their end, or none.

@@ -92,3 +92,47 @@ fn longest_messages(rt: HostRuntime) {
     let longer = joined(&rt, alloc, &[(b"M\0\0\x05\x8b", 517, 0), (b"\x0a", 901, 0)]);
     assert_eq!(rt; counted(&longer, 100), (1, 0, None), "1,419 bytes");
 }
+
+/// The kind and the payload of the frame that a stream tells.
+fn last(stream: &FrameStream) -> Option<(u8, &[u8])> {
+    match stream.last() {
+        Some(frame) => Some((frame.kind, frame.payload)),
+        None => None,
+    }
+}
+
+/// The kind of the frame that a stream tells, and how many bytes its payload has.
+fn last_size(stream: &FrameStream) -> Option<(u8, usize)> {
+    match stream.last() {
+        Some(frame) => Some((frame.kind, frame.payload.len())),
+        None => None,
+    }
+}
+
+#[test]
+fn the_frame_that_ended(rt: HostRuntime) {
+    let mut stream = FrameStream::new();
+    assert_eq!(rt; last(&stream), None, "no bytes");
+    stream.push(b"Z\0\0\0\x02a");
+    assert_eq!(rt; last(&stream), None, "a frame under way");
+    stream.push(b"bQ");
+    let frame: (u8, &[u8]) = (b'Z', b"ab");
+    assert_eq!(rt; last(&stream), Some(frame));
+    stream.push(b"");
+    assert_eq!(rt; last(&stream), Some(frame), "no bytes after it");
+    stream.push(b"Q");
+    assert_eq!(rt; last(&stream), None, "a byte after it");
+}
+
+// A frame of 1,418 bytes is told, and one of a byte more isn't.
+#[test]
+fn the_longest_frame_that_is_told(rt: HostRuntime) {
+    let alloc = rt.alloc();
+    let longest = joined(&rt, alloc, &[(b"Z\0\0\x05\x8a", 1_418, 7)]);
+    let mut stream = FrameStream::new();
+    stream.push(&longest);
+    assert_eq!(rt; last_size(&stream), Some((b'Z', 1_418)));
+    let longer = joined(&rt, alloc, &[(b"Z\0\0\x05\x8b", 1_419, 7)]);
+    stream.push(&longer);
+    assert_eq!(rt; last_size(&stream), None);
+}
