@@ -1,7 +1,7 @@
 //! A share against a line that matches the header.
 
 ghost use Rattle.std.specs.Prelude.{◌≡◌, ◌+◌, ◌-◌, ◌*◌, ◌<◌, ◌≤◌, [], ◌∷◌, ◌++◌, Some, IfOk, IfErr, vec_len, vec_capacity};
-ghost use Rattle.namespace_id.specs.Answers.{HasRoom};
+ghost use Rattle.namespace_id.specs.Answers.{HasCapacity};
 ghost use Rattle.namespace_id.specs.Lists.{ascending};
 ghost use Rattle.data_header.specs.Headers.{root_of};
 ghost use Rattle.axis_roots.specs.Messages.{position};
@@ -19,7 +19,7 @@ use namespace_id::{Axis, Share};
 
 /// Appends a proved sample for which there is capacity.
 fn put_cell(cells: &mut Vec<Proved>, cell: Proved)
-    requires room { HasRoom cells.old 1 }
+    requires capacity { HasCapacity cells.old 1 }
     ensures appended { cells.new.items ≡ cells.old.items ++ cell ∷ [] }
     ensures len { vec_len cells.new ≡ vec_len cells.old + 1 }
     ensures capacity { vec_capacity cells.old ≤ vec_capacity cells.new }
@@ -44,7 +44,7 @@ fn put_line(
         ≡ Some (root_of header.now axis index) }
     requires first { from ≤ to }
     requires last { to ≤ header.now.k }
-    requires capacity { HasRoom cells.old (to - from) }
+    requires capacity { HasCapacity cells.old (to - from) }
     ensures appended { IsContinued header.now axis index room.old.shares
         (ascending from (to - from)) cells.old.items cells.new.items }
     ensures len { vec_len cells.new ≡ vec_len cells.old + (to - from) }
@@ -71,7 +71,7 @@ fn cells_with(
     requires line { IsLineOf header.now axis index room.old.shares }
     requires other { IsAgainst header.now axis index room.old.shares other }
     requires empty { cells.items ≡ [] }
-    requires capacity { HasRoom cells header.now.k }
+    requires capacity { HasCapacity cells header.now.k }
     ensures cells { AreWith header.now axis index room.old.shares other result.items }
     ensures kept { room.new ≡ room.old }
 {
@@ -108,7 +108,7 @@ pub fn from_conflict(
     requires all { IsLineOf header.now axis index all.now }
     requires other { IsAgainst header.now axis index all.now other }
     requires empty { cells.items ≡ [] }
-    requires capacity { HasRoom cells header.now.k }
+    requires capacity { HasCapacity cells header.now.k }
     ensures proof { IfOk result (IsProofAgainst header.now axis index all.now other) }
     ensures clash { IfErr result (λ clash.
         IsClashAgainst header.now axis index all.now other clash.left clash.right) }

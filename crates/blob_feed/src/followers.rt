@@ -2,7 +2,7 @@
 
 ghost use Rattle.std.specs.Prelude.{◌≡◌, ◌↔◌, true, false, ◌+◌, ◌-◌, ◌<◌, ◌≤◌, ◌^◌, ◌++◌, ◌∷◌, [], List, Some, None, IsOk, IsErrOf, IfOk, OnOk, OnErr, option_copied};
 ghost use Rattle.std.specs.Option.{option_map};
-ghost use Rattle.namespace_id.specs.Answers.{HasRoom};
+ghost use Rattle.namespace_id.specs.Answers.{HasCapacity};
 ghost use Rattle.namespace_id.specs.Cells.{is_width};
 ghost use Rattle.share_split.specs.Walks.{blobs_joined};
 ghost use Rattle.blob_feed.specs.declared.entries.FollowError.{FollowError as Refusal};
@@ -74,7 +74,7 @@ impl<F: Filter> Drop for Follower<F> {
 
 /// Appends the entries of a height for which there is capacity.
 fn put_feed(past: &mut Vec<Feed>, feed: Feed)
-    requires room { HasRoom past.old 1 }
+    requires capacity { HasCapacity past.old 1 }
     ensures { past.new.items ≡ past.old.items ++ feed ∷ [] }
 {
     past.push(feed).unwrap();

@@ -16,7 +16,7 @@ use Rattle.proto_fields.specs.Canonical.{number_text, parts_text, canonical_part
 use Rattle.proto_fields.proofs.Options.{and_then_parts}
 use Rattle.proto_fields.proofs.CanonicalVarints.{behind_fits}
 use Rattle.proto_fields.proofs.CanonicalLemmas.{part_read_back, read_is_part_field}
-use Rattle.celestia_pb.specs.declared.rooted_row.Told.{Told}
+use Rattle.celestia_pb.specs.declared.rooted_row.ShareFacts.{ShareFacts}
 use Rattle.celestia_pb.specs.declared.rooted_row.RowPath.{RowPath}
 use Rattle.celestia_pb.specs.declared.rooted_row.RootedRow.{RootedRow}
 use Rattle.celestia_pb.specs.Reading.{then_read}
@@ -73,7 +73,7 @@ leaf_is_read root rest =
     ∙ ap (λ (b : Bool). cond b (Some (true, rest)) None) ((bytes_eq-Decides hash hash).1 refl)
 
 -- the path of a row
-pub row_path_is_read : (told : Option Told) (k row : ℕ) (root : Digest) (up : List (List ℕ)) → is_total told (4 * k) ≡ true → is_row told (4 * k) row ≡ true → k < 2 ^ 16
+pub row_path_is_read : (told : Option ShareFacts) (k row : ℕ) (root : Digest) (up : List (List ℕ)) → is_total told (4 * k) ≡ true → is_row told (4 * k) row ≡ true → k < 2 ^ 16
     → row < 2 ^ 16 → AllByRecursion (IsString 32) up → length up ≤ 11
     → row_path_left told (Some root) (row_path_text k row root up) ≡ Ok (record { k = k; row = row; up = up })
 row_path_is_read told k row root up total_is row_is small lt all few =
@@ -98,7 +98,7 @@ row_path_is_read told k row root up total_is row_is small lt all few =
     ∙ ap (λ (n : ℕ). Ok (record { k = n; row = row; up = up })) quarter
 
 -- what is read as a path
-pub record IsRowPathRead (told : Option Told) (root : Digest) (bytes : List ℕ) (path : RowPath) : Type 0 where
+pub record IsRowPathRead (told : Option ShareFacts) (root : Digest) (bytes : List ℕ) (path : RowPath) : Type 0 where
   pub total : is_total told (4 * path.k) ≡ true
   pub row : is_row told (4 * path.k) path.row ≡ true
   pub up : AllByRecursion (IsString 32) path.up
@@ -106,14 +106,14 @@ pub record IsRowPathRead (told : Option Told) (root : Digest) (bytes : List ℕ)
   pub parts : bytes ≡ row_path_text path.k path.row root path.up
 
 -- the path of these
-record IsPathOf (told : Option Told) (total row : ℕ) (leaf : Option Bool) (up : List (List ℕ)) (rest : List ℕ) (path : RowPath) : Type 0 where
+record IsPathOf (told : Option ShareFacts) (total row : ℕ) (leaf : Option Bool) (up : List (List ℕ)) (rest : List ℕ) (path : RowPath) : Type 0 where
   there : (b : Bool) × (leaf ≡ Some b)
   none : rest ≡ []
   total_is : is_total told total ≡ true
   row_is : is_row told total row ≡ true
   path_is : record { k = total / 4; row = row; up = up } ≡ path
 
-path_parts : (told : Option Told) (total row : ℕ) (leaf : Option Bool) (up : List (List ℕ)) (rest : List ℕ) (path : RowPath)
+path_parts : (told : Option ShareFacts) (total row : ℕ) (leaf : Option Bool) (up : List (List ℕ)) (rest : List ℕ) (path : RowPath)
     → row_path_end told total row leaf up rest ≡ Ok path → IsPathOf told total row leaf up rest path
 path_parts told total row None up rest path e = absurd cc
 path_parts told total row (Some b) up rest path e =
@@ -147,11 +147,11 @@ leaf_back root bytes b rest fits e =
     }
 
 -- four times a quarter
-quarters : (told : Option Told) (total : ℕ) → is_total told total ≡ true → total ≡ 4 * (total / 4)
+quarters : (told : Option ShareFacts) (total : ℕ) → is_total told total ≡ true → total ≡ 4 * (total / 4)
 quarters told total is = eqb-true total (4 * (total / 4)) (and_parts _ _ (and_parts _ _ is).1).0
 
 -- with the fields of these
-path_of : (told : Option Told) (root : Digest) (bytes : List ℕ) (total row : ℕ) (up : List (List ℕ)) (path : RowPath) → record { k = total / 4; row = row; up = up } ≡ path
+path_of : (told : Option ShareFacts) (root : Digest) (bytes : List ℕ) (total row : ℕ) (up : List (List ℕ)) (path : RowPath) → record { k = total / 4; row = row; up = up } ≡ path
     → is_total told total ≡ true → is_row told total row ≡ true → AllByRecursion (IsString 32) up → length up ≤ 11
     → bytes ≡ number_text 1 total ++ (number_text 2 row ++ (bytes_field 3 (leaf_hash root) ++ parts_text 4 up)) → IsRowPathRead told root bytes path
 path_of told root bytes total row up path is total_is row_is all few parts =
@@ -165,7 +165,7 @@ path_of told root bytes total row up path is total_is row_is all few parts =
     })
 
 -- what is read as a path was written so
-pub row_path_back : (told : Option Told) (root : Digest) (bytes : List ℕ) (path : RowPath) → AreBytes bytes → row_path_left told (Some root) bytes ≡ Ok path
+pub row_path_back : (told : Option ShareFacts) (root : Digest) (bytes : List ℕ) (path : RowPath) → AreBytes bytes → row_path_left told (Some root) bytes ≡ Ok path
     → IsRowPathRead told root bytes path
 row_path_back told root bytes path fits e =
     let s = then_ok (row_path_row told (Some root)) (number_left (may_total told) 1 bytes) path e in
@@ -211,7 +211,7 @@ start_self : (n : ℕ) → is_place_stated (Some n) n ≡ true
 start_self n = grind (arith, nat_tests)
 
 -- a row with its root
-pub rooted_row_is_read : (told : Option Told) (k row : ℕ) (root : Digest) (up : List (List ℕ)) → is_total told (4 * k) ≡ true → is_row told (4 * k) row ≡ true
+pub rooted_row_is_read : (told : Option ShareFacts) (k row : ℕ) (root : Digest) (up : List (List ℕ)) → is_total told (4 * k) ≡ true → is_row told (4 * k) row ≡ true
     → k < 2 ^ 16 → row < 2 ^ 16 → IsDigest root → AllByRecursion (IsString 32) up → length up ≤ 11
     → rooted_row_left told (rooted_row_text k row root up) ≡ Ok (record { root = root; path = record { k = k; row = row; up = up } })
 rooted_row_is_read told k row root up total_is row_is small lt is all few =
@@ -233,7 +233,7 @@ rooted_row_is_read told k row root up total_is row_is small lt is all few =
     ∙ ap (λ (b : Bool). cond b (Ok (record { root = root; path = path })) (Err 0)) (and_from (eqb row row) (eqb row row) (eqb_self row) (eqb_self row))
 
 -- what is read as a row
-pub record IsRootedRowRead (told : Option Told) (bytes : List ℕ) (row : RootedRow) : Type 0 where
+pub record IsRootedRowRead (told : Option ShareFacts) (bytes : List ℕ) (row : RootedRow) : Type 0 where
   pub total : is_total told (4 * row.path.k) ≡ true
   pub row_is : is_row told (4 * row.path.k) row.path.row ≡ true
   pub root : IsDigest row.root
@@ -266,7 +266,7 @@ row_parts (Some root) (Some path) first last rest row e =
     })
 
 -- what is read as a row was written so
-pub rooted_row_back : (told : Option Told) (bytes : List ℕ) (row : RootedRow) → AreBytes bytes → rooted_row_left told bytes ≡ Ok row → IsRootedRowRead told bytes row
+pub rooted_row_back : (told : Option ShareFacts) (bytes : List ℕ) (row : RootedRow) → AreBytes bytes → rooted_row_left told bytes ≡ Ok row → IsRootedRowRead told bytes row
 rooted_row_back told bytes row fits e =
     let a = then_ok (rooted_path told) (optional_at (digest_field 1) 1 bytes) row e in
     let b = then_ok (rooted_first a.0.0) (optional_message (λ rest part. row_path_left told a.0.0 part) 2 a.0.1) row a.2 in

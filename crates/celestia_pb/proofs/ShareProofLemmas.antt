@@ -23,7 +23,7 @@ use Rattle.proto_fields.proofs.Options.{and_then_parts}
 use Rattle.proto_fields.proofs.CanonicalVarints.{front_fits, behind_fits}
 use Rattle.proto_fields.proofs.CanonicalLemmas.{part_read_back, read_is_part_field}
 use Rattle.celestia_pb.specs.declared.share_path.SharePath.{SharePath}
-use Rattle.celestia_pb.specs.declared.rooted_row.Told.{Told}
+use Rattle.celestia_pb.specs.declared.rooted_row.ShareFacts.{ShareFacts}
 use Rattle.celestia_pb.specs.declared.rooted_row.RootedRow.{RootedRow}
 use Rattle.celestia_pb.specs.declared.share_proof.Names.{Names}
 use Rattle.celestia_pb.specs.declared.share_proof.Front.{Front}
@@ -204,7 +204,7 @@ module _ (p : RootedParts) (is : IsShareProof p) where
   abbrev front : Front
   front = record { share = share; path = record { col = col; nodes = p.message.path }; names = names_in (name_of p) share }
 
-  abbrev told : Told
+  abbrev told : ShareFacts
   told = record { col = col; own = (names_in (name_of p) share).own; parity = (names_in (name_of p) share).parity }
 
   abbrev rooted : RootedRow
@@ -379,13 +379,13 @@ end_parts (Some front) (Some row) version rest p e =
     }
 
 -- what is told of a square of width k
-record IsTold (told : Told) (k row : ℕ) : Type 0 where
+record IsTold (told : ShareFacts) (k row : ℕ) : Type 0 where
   width : is_width k ≡ true
   col : nat_lt told.col (2 * k) ≡ true
   row_is : nat_lt row (2 * k) ≡ true
   names : cond (is_original k (cell_in row told.col)) told.own told.parity ≡ true
 
-told_parts : (told : Told) (k row : ℕ) → is_total (Some told) (4 * k) ≡ true → is_row (Some told) (4 * k) row ≡ true → IsTold told k row
+told_parts : (told : ShareFacts) (k row : ℕ) → is_total (Some told) (4 * k) ≡ true → is_row (Some told) (4 * k) row ≡ true → IsTold told k row
 told_parts told k row total_is row_is =
     let quarter : 4 * k / 4 ≡ k = omega arith in
     let total : (is_width k && (eqb (4 * k) (4 * k) && has_column (Some told) k)) ≡ true =
@@ -412,7 +412,7 @@ was_read bytes p fits e =
     let front : Front = has.before in
     let row : RootedRow = has.rooted in
     let proof : RootedParts = proof_of front row in
-    let told : Told = record { col = front.path.col; own = front.names.own; parity = front.names.parity } in
+    let told : ShareFacts = record { col = front.path.col; own = front.names.own; parity = front.names.parity } in
     let n1 = front_back bytes front a.0.1 fits (a.1 ∙ ap (λ (o : Option Front). Ok (o, a.0.1)) has.front_is) in
     let second : optional_message (λ rest part. rooted_row_left (Some told) part) 4 a.0.1 ≡ Ok (Some row, b.0.1) =
     ap (λ (o : Option Front). optional_message (λ rest part. rooted_row_left (told_by o) part) 4 a.0.1) (sym has.front_is)

@@ -10,7 +10,7 @@ use Rattle.data_header.specs.DataRoots.{leaf_hash}
 use Rattle.data_header.specs.Paths.{most_hashes}
 use Rattle.proto_fields.specs.Spelled.{bytes_field}
 use Rattle.proto_fields.specs.Canonical.{number_text, parts_text, canonical_part}
-use Rattle.celestia_pb.specs.declared.rooted_row.Told.{Told}
+use Rattle.celestia_pb.specs.declared.rooted_row.ShareFacts.{ShareFacts}
 use Rattle.celestia_pb.specs.declared.rooted_row.RowPath.{RowPath}
 use Rattle.celestia_pb.specs.declared.rooted_row.RootedRow.{RootedRow}
 use Rattle.celestia_pb.specs.Reading.{then_read}
@@ -32,28 +32,28 @@ rooted_row_text k row root up = bytes_field 1 root.0 ++ (bytes_field 2 (row_path
 -- ---- which numbers may be there, by what is told of the share
 
 -- whether a square of width k has the share's column; right of the original square only the namespace of parity shares is a leaf's
-abbrev pub has_column : Option Told → ℕ → Bool
+abbrev pub has_column : Option ShareFacts → ℕ → Bool
 has_column None k = true
 has_column (Some told) k = nat_lt told.col (2 * k) && (nat_lt told.col k || told.parity)
 
 -- whether the leaf in a row may have the share's namespace
-abbrev pub has_names : Option Told → ℕ → ℕ → Bool
+abbrev pub has_names : Option ShareFacts → ℕ → ℕ → Bool
 has_names None k row = true
 has_names (Some told) k row = if is_original k (cell_in row told.col) then told.own else told.parity
 
 -- whether a number is that of the roots of a square that has the column
-abbrev pub is_total : Option Told → ℕ → Bool
+abbrev pub is_total : Option ShareFacts → ℕ → Bool
 is_total told total = is_width (total / 4) && ((total == 4 * (total / 4)) && has_column told (total / 4))
 
 -- whether a number is a row of the square of so many roots, where the leaf may have the namespace
-abbrev pub is_row : Option Told → ℕ → ℕ → Bool
+abbrev pub is_row : Option ShareFacts → ℕ → ℕ → Bool
 is_row told total row = nat_lt row (2 * (total / 4)) && has_names told (total / 4) row
 
 -- the same, or there is no such field
-abbrev pub may_total : Option Told → ℕ → Bool
+abbrev pub may_total : Option ShareFacts → ℕ → Bool
 may_total told total = (total == 0) || is_total told total
 
-abbrev pub may_row : Option Told → ℕ → ℕ → Bool
+abbrev pub may_row : Option ShareFacts → ℕ → ℕ → Bool
 may_row told total row = (row == 0) || ((total == 0) || is_row told total row)
 
 -- ---- the message Proof, read
@@ -71,7 +71,7 @@ abbrev pub leaf_at : Option Digest → List ℕ → Option (Bool × List ℕ)
 leaf_at root bytes = option_and_then (if_leaf root) (canonical_part 3 bytes)
 
 -- the path of these, where all are there and nothing follows
-abbrev pub row_path_end : Option Told → ℕ → ℕ → Option Bool → List (List ℕ) → List ℕ → Result RowPath ℕ
+abbrev pub row_path_end : Option ShareFacts → ℕ → ℕ → Option Bool → List (List ℕ) → List ℕ → Result RowPath ℕ
 row_path_end told total row None up rest = Err (length rest)
 row_path_end told total row (Some leaf) up rest =
     if (length rest == 0) && (is_total told total && is_row told total row)
@@ -79,19 +79,19 @@ row_path_end told total row (Some leaf) up rest =
     else Err (length rest)
 
 -- where the leaf's hash was read
-abbrev pub row_path_aunts : Option Told → ℕ → ℕ → Option Bool → List ℕ → Result RowPath ℕ
+abbrev pub row_path_aunts : Option ShareFacts → ℕ → ℕ → Option Bool → List ℕ → Result RowPath ℕ
 row_path_aunts told total row leaf bytes = then_read (row_path_end told total row leaf) (aunts_at 4 most_hashes bytes)
 
 -- where the row was read
-abbrev pub row_path_leaf : Option Told → Option Digest → ℕ → ℕ → List ℕ → Result RowPath ℕ
+abbrev pub row_path_leaf : Option ShareFacts → Option Digest → ℕ → ℕ → List ℕ → Result RowPath ℕ
 row_path_leaf told root total row bytes = then_read (row_path_aunts told total row) (optional_at (leaf_at root) 3 bytes)
 
 -- where the number of roots was read
-abbrev pub row_path_row : Option Told → Option Digest → ℕ → List ℕ → Result RowPath ℕ
+abbrev pub row_path_row : Option ShareFacts → Option Digest → ℕ → List ℕ → Result RowPath ℕ
 row_path_row told root total bytes = then_read (row_path_leaf told root total) (number_left (may_row told total) 2 bytes)
 
 -- the width, the row and the hashes that a message Proof has, by what is told and the root in front of it
-abbrev pub row_path_left : Option Told → Option Digest → List ℕ → Result RowPath ℕ
+abbrev pub row_path_left : Option ShareFacts → Option Digest → List ℕ → Result RowPath ℕ
 row_path_left told root bytes = then_read (row_path_row told root) (number_left (may_total told) 1 bytes)
 
 -- ---- the message RowProof, read
@@ -118,9 +118,9 @@ abbrev pub rooted_first : Option Digest → Option RowPath → List ℕ → Resu
 rooted_first root path bytes = then_read (rooted_last root path) (number_left (is_place_stated (row_in path)) 4 bytes)
 
 -- where the root was read
-abbrev pub rooted_path : Option Told → Option Digest → List ℕ → Result RootedRow ℕ
+abbrev pub rooted_path : Option ShareFacts → Option Digest → List ℕ → Result RootedRow ℕ
 rooted_path told root bytes = then_read (rooted_first root) (optional_message (λ rest part. row_path_left told root part) 2 bytes)
 
 -- the row with its root that a message RowProof has, by what is told
-abbrev pub rooted_row_left : Option Told → List ℕ → Result RootedRow ℕ
+abbrev pub rooted_row_left : Option ShareFacts → List ℕ → Result RootedRow ℕ
 rooted_row_left told bytes = then_read (rooted_path told) (optional_at (digest_field 1) 1 bytes)

@@ -15,7 +15,7 @@ use Rattle.blob_commit.specs.Refusals.{has_rooted_shape}
 use Rattle.proto_fields.specs.Spelled.{bytes_field}
 use Rattle.proto_fields.specs.Canonical.{number_text, canonical_part}
 use Rattle.celestia_pb.specs.declared.share_path.SharePath.{SharePath}
-use Rattle.celestia_pb.specs.declared.rooted_row.Told.{Told}
+use Rattle.celestia_pb.specs.declared.rooted_row.ShareFacts.{ShareFacts}
 use Rattle.celestia_pb.specs.declared.rooted_row.RootedRow.{RootedRow}
 use Rattle.celestia_pb.specs.declared.share_proof.Names.{Names}
 use Rattle.celestia_pb.specs.declared.share_proof.Front.{Front}
@@ -111,7 +111,7 @@ abbrev pub front_left : List ℕ → Result (Option Front × List ℕ) ℕ
 front_left bytes = then_read front_path (data_at bytes)
 
 -- what it tells of the row's proof
-abbrev pub told_by : Option Front → Option Told
+abbrev pub told_by : Option Front → Option ShareFacts
 told_by None = None
 told_by (Some front) = Some (record { col = front.path.col; own = front.names.own; parity = front.names.parity })
 

@@ -1,7 +1,7 @@
 //! Hashes in repeated fields of bytes.
 
 ghost use Rattle.std.specs.Prelude.{◌≡◌, ◌+◌, ◌≤◌, ◌<◌, ◌++◌, length, vec_len, vec_capacity, IfOk, IfErr, IfSome};
-ghost use Rattle.namespace_id.specs.Answers.{Gives, HasRoom};
+ghost use Rattle.namespace_id.specs.Answers.{Gives, HasCapacity};
 ghost use Rattle.data_header.specs.Paths.{most_hashes};
 ghost use Rattle.proto_fields.specs.Canonical.{parts_text};
 ghost use Rattle.celestia_pb.specs.Reading.{ReadsMessage};
@@ -67,7 +67,7 @@ pub(crate) fn aunts_at(number: u8, bytes: &[u8]) -> Result<(RootPath, &[u8]), us
 
 /// Appends hashes for which there is capacity, each in a field of this number.
 pub(crate) fn put_aunts(number: u8, hashes: &[[u8; HASH_SIZE]], out: &mut Vec<u8>)
-    requires room { HasRoom out.old (length (parts_text number hashes.now)) }
+    requires capacity { HasCapacity out.old (length (parts_text number hashes.now)) }
     ensures appended { out.new.items ≡ out.old.items ++ parts_text number hashes.now }
     ensures len { vec_len out.new ≡ vec_len out.old + length (parts_text number hashes.now) }
     ensures capacity { vec_capacity out.old ≤ vec_capacity out.new }

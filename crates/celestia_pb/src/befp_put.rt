@@ -2,7 +2,7 @@
 
 ghost use Rattle.std.specs.Prelude.{◌≡◌, ◌↔◌, ℕ, List, ◌+◌, ◌*◌, ◌≤◌, ◌<◌, ◌++◌, length, map, true, nat_lt, vec_len, vec_capacity, IsSome, IfSome};
 ghost use Rattle.std.specs.List.{list_all};
-ghost use Rattle.namespace_id.specs.Answers.{Gives, HasRoom};
+ghost use Rattle.namespace_id.specs.Answers.{Gives, HasCapacity};
 ghost use Rattle.namespace_id.specs.Cells.{is_width};
 ghost use Rattle.namespace_id.specs.Lists.{holds_along};
 ghost use Rattle.proto_fields.specs.Spelled.{bytes_field};
@@ -95,7 +95,7 @@ fn entry_size(message: &Message) -> usize
 
 /// Appends the message of a share with its proof, for which there is capacity.
 fn put_message(message: &Message, out: &mut Vec<u8>)
-    requires room { HasRoom out.old (length (befp_entry 1 message.now)) }
+    requires capacity { HasCapacity out.old (length (befp_entry 1 message.now)) }
     ensures appended { out.new.items ≡ out.old.items ++ befp_entry 1 message.now }
     ensures len { vec_len out.new ≡ vec_len out.old + length (befp_entry 1 message.now) }
     ensures capacity { vec_capacity out.old ≤ vec_capacity out.new }
@@ -144,7 +144,7 @@ fn place_size(axis: Axis, place: u16, cells: &[Message]) -> usize
 
 /// Appends the field of a place, for which there is capacity.
 fn put_place(axis: Axis, place: u16, cells: &[Message], out: &mut Vec<u8>)
-    requires room { HasRoom out.old (length (bytes_field 3 (befp_place 1 (shown_at axis place cells.now)))) }
+    requires capacity { HasCapacity out.old (length (bytes_field 3 (befp_place 1 (shown_at axis place cells.now)))) }
     ensures appended { out.new.items ≡ out.old.items ++ bytes_field 3 (befp_place 1 (shown_at axis place cells.now)) }
     ensures len { vec_len out.new ≡ vec_len out.old + length (bytes_field 3 (befp_place 1 (shown_at axis place cells.now))) }
     ensures capacity { vec_capacity out.old ≤ vec_capacity out.new }
@@ -176,7 +176,7 @@ fn places_size(k: u16, axis: Axis, cells: &[Message]) -> usize
 /// Appends the fields of all places, for which there is capacity.
 fn put_places(k: u16, axis: Axis, cells: &[Message], out: &mut Vec<u8>)
     requires width { is_width k ≡ true }
-    requires room { HasRoom out.old (length (places_text 1 (places_of axis (2 * k) 0 cells.now))) }
+    requires capacity { HasCapacity out.old (length (places_text 1 (places_of axis (2 * k) 0 cells.now))) }
     ensures appended { out.new.items ≡ out.old.items ++ places_text 1 (places_of axis (2 * k) 0 cells.now) }
     ensures len { vec_len out.new ≡ vec_len out.old + length (places_text 1 (places_of axis (2 * k) 0 cells.now)) }
     ensures capacity { vec_capacity out.old ≤ vec_capacity out.new }
@@ -213,7 +213,7 @@ pub fn befp_size(k: u16, height: u64, claim: &FraudClaim) -> Option<usize>
 /// Celestia specifications, "Fraud Proofs", bad encoding; protobuf, "Encoding".
 pub fn put_befp(k: u16, hash: &[u8; 32], height: u64, claim: &FraudClaim, out: &mut Vec<u8>)
     requires which { claim_has_message k claim.now ≡ true }
-    requires room { HasRoom out.old (length (befp_text 1 k hash.now height claim.now)) }
+    requires capacity { HasCapacity out.old (length (befp_text 1 k hash.now height claim.now)) }
     ensures appended { out.new.items ≡ out.old.items ++ befp_text 1 k hash.now height claim.now }
     ensures len { vec_len out.new ≡ vec_len out.old + length (befp_text 1 k hash.now height claim.now) }
     ensures capacity { vec_capacity out.old ≤ vec_capacity out.new }

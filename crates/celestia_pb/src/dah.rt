@@ -1,7 +1,7 @@
 //! Data availability headers as messages DataAvailabilityHeader.
 
 ghost use Rattle.std.specs.Prelude.{◌≡◌, ◌↔◌, ℕ, ◌+◌, ◌*◌, ◌≤◌, ◌++◌, ◌==◌, ◌&&◌, length, drop, true, Err, vec_len, vec_capacity, Ok, IfOk, IfErr, IsErrOf};
-ghost use Rattle.namespace_id.specs.Answers.{HasRoom};
+ghost use Rattle.namespace_id.specs.Answers.{HasCapacity};
 ghost use Rattle.namespace_id.specs.Cells.{is_width};
 ghost use Rattle.celestia_pb.specs.Reading.{ReadsMessage};
 ghost use Rattle.celestia_pb.specs.Digests.{digests_in, entry_size};
@@ -88,7 +88,7 @@ pub fn dah_size(header: &Header) -> usize
 ///
 /// Celestia specifications, "Data Structures", available data header; protobuf, "Encoding".
 pub fn put_dah(header: &Header, out: &mut Vec<u8>)
-    requires room { HasRoom out.old (length (dah_text header.now)) }
+    requires capacity { HasCapacity out.old (length (dah_text header.now)) }
     ensures appended { out.new.items ≡ out.old.items ++ dah_text header.now }
     ensures len { vec_len out.new ≡ vec_len out.old + length (dah_text header.now) }
     ensures capacity { vec_capacity out.old ≤ vec_capacity out.new }

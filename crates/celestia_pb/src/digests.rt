@@ -1,7 +1,7 @@
 //! Digests in repeated fields of bytes.
 
 ghost use Rattle.std.specs.Prelude.{◌≡◌, ◌+◌, ◌*◌, ◌≤◌, ◌<◌, ◌++◌, length, drop, vec_len, vec_capacity, IfOk, IfErr};
-ghost use Rattle.namespace_id.specs.Answers.{Gives, HasRoom};
+ghost use Rattle.namespace_id.specs.Answers.{Gives, HasCapacity};
 ghost use Rattle.celestia_pb.specs.Reading.{ReadsMessage};
 ghost use Rattle.celestia_pb.specs.Digests.{digests_text, digest_field, digests_at, digests_in, entry_digest, entry_size};
 
@@ -86,7 +86,7 @@ pub(crate) fn digests_in(alloc: Global, count: usize, bytes: &[u8]) -> Result<Ve
 
 /// Appends digests for which there is capacity, each in a field of this number.
 pub(crate) fn put_digests(number: u8, digests: &[Digest], out: &mut Vec<u8>)
-    requires room { HasRoom out.old (length (digests_text number digests.now)) }
+    requires capacity { HasCapacity out.old (length (digests_text number digests.now)) }
     ensures appended { out.new.items ≡ out.old.items ++ digests_text number digests.now }
     ensures len { vec_len out.new ≡ vec_len out.old + length (digests_text number digests.now) }
     ensures capacity { vec_capacity out.old ≤ vec_capacity out.new }

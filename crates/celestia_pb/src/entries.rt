@@ -1,7 +1,7 @@
 //! Fields as they are written, and their sizes.
 
 ghost use Rattle.std.specs.Prelude.{◌≡◌, ◌+◌, ◌≤◌, ◌<◌, ◌^◌, ◌++◌, length, vec_len, vec_capacity};
-ghost use Rattle.namespace_id.specs.Answers.{HasRoom};
+ghost use Rattle.namespace_id.specs.Answers.{HasCapacity};
 ghost use Rattle.proto_fields.specs.Spelled.{bytes_field, field_size};
 ghost use Rattle.proto_fields.specs.Canonical.{number_text};
 ghost use Rattle.celestia_pb.specs.Messages.{field_front};
@@ -37,7 +37,7 @@ pub(crate) fn part_size(number: u8, len: usize) -> usize
 
 /// Appends the tag and the length of a field of so many bytes, for which there is capacity.
 pub(crate) fn put_front(number: u8, count: usize, out: &mut Vec<u8>)
-    requires room { HasRoom out.old (length (field_front number count)) }
+    requires capacity { HasCapacity out.old (length (field_front number count)) }
     ensures appended { out.new.items ≡ out.old.items ++ field_front number count }
     ensures len { vec_len out.new ≡ vec_len out.old + length (field_front number count) }
     ensures capacity { vec_capacity out.old ≤ vec_capacity out.new }
@@ -49,7 +49,7 @@ pub(crate) fn put_front(number: u8, count: usize, out: &mut Vec<u8>)
 /// Appends a field of bytes for which there is capacity.
 #[tactic(auto, using(proto_fields::proofs::WrittenLemmas::size_is_length))]
 pub(crate) fn put_entry(number: u8, bytes: &[u8], out: &mut Vec<u8>)
-    requires room { HasRoom out.old (length (bytes_field number bytes.now)) }
+    requires capacity { HasCapacity out.old (length (bytes_field number bytes.now)) }
     ensures appended { out.new.items ≡ out.old.items ++ bytes_field number bytes.now }
     ensures len { vec_len out.new ≡ vec_len out.old + length (bytes_field number bytes.now) }
     ensures capacity { vec_capacity out.old ≤ vec_capacity out.new }

@@ -1,7 +1,7 @@
 //! Half rows as messages Row.
 
 ghost use Rattle.std.specs.Prelude.{◌≡◌, ◌↔◌, ℕ, ◌+◌, ◌*◌, ◌≤◌, ◌++◌, ◌==◌, ◌&&◌, length, true, drop, Err, vec_len, vec_capacity, Ok, IfOk, IfErr, IsErrOf};
-ghost use Rattle.namespace_id.specs.Answers.{Gives, HasRoom};
+ghost use Rattle.namespace_id.specs.Answers.{Gives, HasCapacity};
 ghost use Rattle.namespace_id.specs.Cells.{is_width};
 ghost use Rattle.celestia_pb.specs.Reading.{ReadsMessage};
 ghost use Rattle.celestia_pb.specs.RowShares.{tagged_shares};
@@ -135,7 +135,7 @@ pub fn half_row_size(half: &HalfRow) -> usize
 ///
 /// CIP-19, "Row"; protobuf, "Encoding".
 pub fn put_half_row(half: &HalfRow, out: &mut Vec<u8>)
-    requires room { HasRoom out.old (length (half_row_text half.now)) }
+    requires capacity { HasCapacity out.old (length (half_row_text half.now)) }
     ensures appended { out.new.items ≡ out.old.items ++ half_row_text half.now }
     ensures len { vec_len out.new ≡ vec_len out.old + length (half_row_text half.now) }
     ensures capacity { vec_capacity out.old ≤ vec_capacity out.new }

@@ -1,7 +1,7 @@
 //! Identifiers by which Celestia's nodes ask: SampleID and NamespaceDataID.
 
 ghost use Rattle.std.specs.Prelude.{◌≡◌, ◌↔◌, ℕ, ◌+◌, ◌≤◌, ◌++◌, length, vec_len, vec_capacity, Ok, Err, IsErrOf};
-ghost use Rattle.namespace_id.specs.Answers.{Gives, HasRoom};
+ghost use Rattle.namespace_id.specs.Answers.{Gives, HasCapacity};
 ghost use Rattle.celestia_pb.specs.Reading.{ReadsMessage};
 ghost use Rattle.celestia_pb.specs.Ids.{sample_id_text, namespace_id_text, behind_height, short_at, name_front, sample_id_left, namespace_id_left, sample_id_value, namespace_id_value, SampleIdIsRead, ReadIsSampleId, NamespaceIdIsRead, ReadIsNamespaceId};
 
@@ -115,7 +115,7 @@ pub fn read_sample_id(height: u64, bytes: &[u8]) -> Result<Cell, PbError>
 ///
 /// CIP-19, "SampleID".
 pub fn put_sample_id(height: u64, cell: Cell, out: &mut Vec<u8>)
-    requires room { HasRoom out.old 12 }
+    requires capacity { HasCapacity out.old 12 }
     ensures appended { out.new.items ≡ out.old.items ++ sample_id_text height cell }
     ensures len { vec_len out.new ≡ vec_len out.old + 12 }
     ensures capacity { vec_capacity out.old ≤ vec_capacity out.new }
@@ -145,7 +145,7 @@ pub fn read_namespace_id(height: u64, bytes: &[u8]) -> Result<Namespace, PbError
 ///
 /// CIP-19, "NamespaceDataID".
 pub fn put_namespace_id(height: u64, name: &Namespace, out: &mut Vec<u8>)
-    requires room { HasRoom out.old 37 }
+    requires capacity { HasCapacity out.old 37 }
     ensures appended { out.new.items ≡ out.old.items ++ namespace_id_text height name.now }
     ensures len { vec_len out.new ≡ vec_len out.old + 37 }
     ensures capacity { vec_capacity out.old ≤ vec_capacity out.new }

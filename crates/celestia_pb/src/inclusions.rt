@@ -1,7 +1,7 @@
 //! nmt's message Proof, where it shows leaves.
 
 ghost use Rattle.std.specs.Prelude.{◌≡◌, ◌==◌, ◌+◌, ◌*◌, ◌≤◌, ◌<◌, ◌^◌, ◌++◌, length, vec_len, vec_capacity, IfOk, IfErr};
-ghost use Rattle.namespace_id.specs.Answers.{HasRoom};
+ghost use Rattle.namespace_id.specs.Answers.{HasCapacity};
 ghost use Rattle.namespace_id.specs.Sizes.{most_depth};
 ghost use Rattle.celestia_pb.specs.Reading.{ReadsMessage};
 ghost use Rattle.celestia_pb.specs.Digests.{digests_in, entry_size};
@@ -166,7 +166,7 @@ pub(crate) fn inclusion_size(start: u64, nodes: &[Digest]) -> usize
 /// Appends the message of a proof of one leaf, for which there is capacity.
 pub(crate) fn put_inclusion(start: u64, nodes: &[Digest], out: &mut Vec<u8>)
     requires start { start < 2 ^ 16 }
-    requires room { HasRoom out.old (length (inclusion_text start 1 nodes.now)) }
+    requires capacity { HasCapacity out.old (length (inclusion_text start 1 nodes.now)) }
     ensures appended { out.new.items ≡ out.old.items ++ inclusion_text start 1 nodes.now }
     ensures len { vec_len out.new ≡ vec_len out.old + length (inclusion_text start 1 nodes.now) }
     ensures capacity { vec_capacity out.old ≤ vec_capacity out.new }

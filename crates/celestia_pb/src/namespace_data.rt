@@ -2,7 +2,7 @@
 
 ghost use Rattle.std.specs.Prelude.{◌≡◌, ◌↔◌, ℕ, ◌+◌, ◌*◌, ◌≤◌, ◌++◌, length, vec_len, vec_capacity, true, false, None, Some, Ok, Err, IfOk, IfErr, IfSome, IsErrOf};
 ghost use Rattle.std.specs.List.{list_all};
-ghost use Rattle.namespace_id.specs.Answers.{Gives, HasRoom, refusal_in};
+ghost use Rattle.namespace_id.specs.Answers.{Gives, HasCapacity, refusal_in};
 ghost use Rattle.namespace_id.specs.Sizes.{greatest_width};
 ghost use Rattle.proto_fields.specs.Canonical.{shortest_at, part_at};
 ghost use Rattle.celestia_pb.specs.Reading.{ReadsMessage};
@@ -161,7 +161,7 @@ pub fn namespace_data_size(answer: &NsAnswer) -> Option<usize>
 /// Appends the message of an entry that has one, behind its length, for which there is capacity.
 fn put_entry(entry: &NsEntry, out: &mut Vec<u8>)
     requires has { has_part entry.now ≡ true }
-    requires room { HasRoom out.old (length (ns_entry_text entry.now)) }
+    requires capacity { HasCapacity out.old (length (ns_entry_text entry.now)) }
     ensures appended { out.new.items ≡ out.old.items ++ ns_entry_text entry.now }
     ensures len { vec_len out.new ≡ vec_len out.old + length (ns_entry_text entry.now) }
     ensures capacity { vec_capacity out.old ≤ vec_capacity out.new }
@@ -174,7 +174,7 @@ fn put_entry(entry: &NsEntry, out: &mut Vec<u8>)
 /// Appends the messages of entries that have one, each behind its length, for which there is capacity.
 fn put_entries(entries: &[NsEntry], out: &mut Vec<u8>)
     requires have { list_all has_part entries.now ≡ true }
-    requires room { HasRoom out.old (length (namespace_data_text entries.now)) }
+    requires capacity { HasCapacity out.old (length (namespace_data_text entries.now)) }
     ensures appended { out.new.items ≡ out.old.items ++ namespace_data_text entries.now }
     ensures len { vec_len out.new ≡ vec_len out.old + length (namespace_data_text entries.now) }
     ensures capacity { vec_capacity out.old ≤ vec_capacity out.new }
@@ -189,7 +189,7 @@ fn put_entries(entries: &[NsEntry], out: &mut Vec<u8>)
 /// CIP-19, "RowNamespaceData"; protobuf, "Encoding".
 pub fn put_namespace_data(answer: &NsAnswer, out: &mut Vec<u8>)
     requires has { has_stream answer.now ≡ true }
-    requires room { HasRoom out.old (length (namespace_data_text answer.now)) }
+    requires capacity { HasCapacity out.old (length (namespace_data_text answer.now)) }
     ensures appended { out.new.items ≡ out.old.items ++ namespace_data_text answer.now }
     ensures len { vec_len out.new ≡ vec_len out.old + length (namespace_data_text answer.now) }
     ensures capacity { vec_capacity out.old ≤ vec_capacity out.new }

@@ -1,7 +1,7 @@
 //! Original squares as their shares alone.
 
 ghost use Rattle.std.specs.Prelude.{◌≡◌, ◌↔◌, ℕ, ◌+◌, ◌*◌, ◌≤◌, ◌++◌, length, true, vec_len, vec_capacity, Ok, Err, IfOk, IfSome, IsErrOf};
-ghost use Rattle.namespace_id.specs.Answers.{Gives, HasRoom};
+ghost use Rattle.namespace_id.specs.Answers.{Gives, HasCapacity};
 ghost use Rattle.namespace_id.specs.Cells.{is_width};
 ghost use Rattle.namespace_id.specs.Sizes.{share_size, most_shares};
 ghost use Rattle.celestia_pb.specs.Reading.{ReadsMessage};
@@ -101,7 +101,7 @@ pub fn ods_size(square: &Square) -> usize
 ///
 /// Celestia specifications, "Data Structures".
 pub fn put_ods(square: &Square, out: &mut Vec<u8>)
-    requires room { HasRoom out.old (length (ods_text square.now)) }
+    requires capacity { HasCapacity out.old (length (ods_text square.now)) }
     ensures appended { out.new.items ≡ out.old.items ++ ods_text square.now }
     ensures len { vec_len out.new ≡ vec_len out.old + length (ods_text square.now) }
     ensures capacity { vec_capacity out.old ≤ vec_capacity out.new }

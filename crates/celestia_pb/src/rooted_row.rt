@@ -1,7 +1,7 @@
 //! The message RowProof of one row: its root, and the plain Merkle proof of that under the data root.
 
 ghost use Rattle.std.specs.Prelude.{◌≡◌, ◌==◌, ◌&&◌, ◌/◌, ◌*◌, ◌≤◌, ◌<◌, ◌^◌, ◌+◌, ◌++◌, true, length, vec_len, vec_capacity, IfOk, IfErr};
-ghost use Rattle.namespace_id.specs.Answers.{HasRoom};
+ghost use Rattle.namespace_id.specs.Answers.{HasCapacity};
 ghost use Rattle.namespace_id.specs.Cells.{is_width};
 ghost use Rattle.data_header.specs.Paths.{most_hashes};
 ghost use Rattle.proto_fields.specs.Spelled.{bytes_field};
@@ -42,7 +42,7 @@ const AUNTS: u8 = 4;
 
 /// What is told of the share before its row: its column, and whether its namespace may be its own, and that of parity shares.
 #[derive(Clone, Copy)]
-pub(crate) struct Told {
+pub(crate) struct ShareFacts {
     pub col: u16,
     pub own: bool,
     pub parity: bool,
@@ -64,7 +64,7 @@ pub(crate) struct RootedRow {
 }
 
 /// Whether a square of width `k` has the column, and it may have the namespace there.
-fn has_column(told: Option<Told>, k: u64) -> bool
+fn has_column(told: Option<ShareFacts>, k: u64) -> bool
     requires { k < 2 ^ 62 }
     ensures { result ≡ has_column told k }
 {
@@ -76,7 +76,7 @@ fn has_column(told: Option<Told>, k: u64) -> bool
 }
 
 /// Whether the leaf in a row may have the namespace.
-fn has_names(told: Option<Told>, k: u64, row: u64) -> bool
+fn has_names(told: Option<ShareFacts>, k: u64, row: u64) -> bool
     ensures { result ≡ has_names told k row }
 {
     let Some(told) = told else {
@@ -101,7 +101,7 @@ fn is_any_width(k: u64) -> bool
 }
 
 /// Whether a number is that of the roots of a square that has the column.
-fn is_total(told: Option<Told>, total: u64) -> bool
+fn is_total(told: Option<ShareFacts>, total: u64) -> bool
     ensures value { result ≡ is_total told total }
     ensures few { result ≡ true → total / 4 ≤ 512 }
 {
@@ -110,7 +110,7 @@ fn is_total(told: Option<Told>, total: u64) -> bool
 }
 
 /// Whether a number is a row of the square of so many roots, where the leaf may have the namespace.
-fn is_row(told: Option<Told>, total: u64, row: u64) -> bool
+fn is_row(told: Option<ShareFacts>, total: u64, row: u64) -> bool
     ensures value { result ≡ is_row told total row }
     ensures few { result ≡ true → row < 2 * (total / 4) }
 {
@@ -119,7 +119,7 @@ fn is_row(told: Option<Told>, total: u64, row: u64) -> bool
 }
 
 /// The number of roots at the front, and the bytes after it; where it is wrong, how many bytes are left.
-fn total_at(told: Option<Told>, bytes: &[u8]) -> Result<(u64, &[u8]), usize>
+fn total_at(told: Option<ShareFacts>, bytes: &[u8]) -> Result<(u64, &[u8]), usize>
     ensures value { ReadsMessage (λ x. (x.0, x.1.now)) result (number_left (may_total told) 1 bytes.now) }
     ensures shorter { IfOk result (λ x. length x.1.now ≤ length bytes.now) }
     ensures within { IfErr result (λ left. left ≤ length bytes.now) }
@@ -132,7 +132,7 @@ fn total_at(told: Option<Told>, bytes: &[u8]) -> Result<(u64, &[u8]), usize>
 }
 
 /// The row at the front, and the bytes after it; where it is wrong, how many bytes are left.
-fn row_at(told: Option<Told>, total: u64, bytes: &[u8]) -> Result<(u64, &[u8]), usize>
+fn row_at(told: Option<ShareFacts>, total: u64, bytes: &[u8]) -> Result<(u64, &[u8]), usize>
     ensures value { ReadsMessage (λ x. (x.0, x.1.now)) result (number_left (may_row told total) 2 bytes.now) }
     ensures shorter { IfOk result (λ x. length x.1.now ≤ length bytes.now) }
     ensures within { IfErr result (λ left. left ≤ length bytes.now) }
@@ -174,7 +174,7 @@ fn leaf_at(root: Option<Digest>, bytes: &[u8]) -> Result<(Option<bool>, &[u8]), 
 }
 
 /// Whether nothing is left, and these are the number of roots and the row of a path.
-fn is_path(told: Option<Told>, total: u64, row: u64, rest: &[u8]) -> bool
+fn is_path(told: Option<ShareFacts>, total: u64, row: u64, rest: &[u8]) -> bool
     ensures value { result ≡ ((length rest.now == 0) && (is_total told total && is_row told total row)) }
     ensures few { result ≡ true → (total / 4 < 2 ^ 16) × (row < 2 ^ 16) }
 {
@@ -183,7 +183,11 @@ fn is_path(told: Option<Told>, total: u64, row: u64, rest: &[u8]) -> bool
 
 /// The path that a message is, by what is told and by the root in front of it; where a field is wrong, how many bytes are left
 /// from it on.
-fn row_path_in(told: Option<Told>, root: Option<Digest>, bytes: &[u8]) -> Result<RowPath, usize>
+fn row_path_in(
+    told: Option<ShareFacts>,
+    root: Option<Digest>,
+    bytes: &[u8],
+) -> Result<RowPath, usize>
     ensures value { ReadsMessage (λ path. path) result (row_path_left told root bytes.now) }
     ensures within { IfErr result (λ left. left ≤ length bytes.now) }
 {
@@ -203,7 +207,7 @@ fn row_path_in(told: Option<Told>, root: Option<Digest>, bytes: &[u8]) -> Result
 
 /// The path in a field that may be at the front, and the bytes after it; where it is wrong, how many bytes are left.
 fn path_at(
-    told: Option<Told>,
+    told: Option<ShareFacts>,
     root: Option<Digest>,
     bytes: &[u8],
 ) -> Result<(Option<RowPath>, &[u8]), usize>
@@ -293,7 +297,7 @@ fn rooted_end(
 }
 
 /// The row that a message is, by what is told; where a field is wrong, how many bytes are left from it on.
-fn rooted_row_in(told: Option<Told>, bytes: &[u8]) -> Result<RootedRow, usize>
+fn rooted_row_in(told: Option<ShareFacts>, bytes: &[u8]) -> Result<RootedRow, usize>
     ensures value { ReadsMessage (λ row. row) result (rooted_row_left told bytes.now) }
     ensures within { IfErr result (λ left. left ≤ length bytes.now) }
 {
@@ -309,7 +313,7 @@ fn rooted_row_in(told: Option<Told>, bytes: &[u8]) -> Result<RootedRow, usize>
 /// left.
 pub(crate) fn rooted_row_at(
     number: u8,
-    told: Option<Told>,
+    told: Option<ShareFacts>,
     bytes: &[u8],
 ) -> Result<(Option<RootedRow>, &[u8]), usize>
     requires { number < 16 }
@@ -360,7 +364,7 @@ pub(crate) fn rooted_row_size(proof: &RootedMessage) -> usize
 
 /// Appends the path of a root proof's row, for which there is capacity.
 fn put_row_path(proof: &RootedMessage, out: &mut Vec<u8>)
-    requires room { HasRoom out.old (length (path_part proof.now)) }
+    requires capacity { HasCapacity out.old (length (path_part proof.now)) }
     ensures appended { out.new.items ≡ out.old.items ++ path_part proof.now }
     ensures len { vec_len out.new ≡ vec_len out.old + length (path_part proof.now) }
     ensures capacity { vec_capacity out.old ≤ vec_capacity out.new }
@@ -374,7 +378,7 @@ fn put_row_path(proof: &RootedMessage, out: &mut Vec<u8>)
 
 /// Appends the field of that path, for which there is capacity.
 fn put_path(proof: &RootedMessage, out: &mut Vec<u8>)
-    requires room { HasRoom out.old (length (bytes_field 2 (path_part proof.now))) }
+    requires capacity { HasCapacity out.old (length (bytes_field 2 (path_part proof.now))) }
     ensures appended { out.new.items ≡ out.old.items ++ bytes_field 2 (path_part proof.now) }
     ensures len { vec_len out.new ≡ vec_len out.old + length (bytes_field 2 (path_part proof.now)) }
     ensures capacity { vec_capacity out.old ≤ vec_capacity out.new }
@@ -385,7 +389,7 @@ fn put_path(proof: &RootedMessage, out: &mut Vec<u8>)
 
 /// Appends the row of a root proof, for which there is capacity.
 pub(crate) fn put_rooted_row(proof: &RootedMessage, out: &mut Vec<u8>)
-    requires room { HasRoom out.old (length (row_part proof.now)) }
+    requires capacity { HasCapacity out.old (length (row_part proof.now)) }
     ensures appended { out.new.items ≡ out.old.items ++ row_part proof.now }
     ensures len { vec_len out.new ≡ vec_len out.old + length (row_part proof.now) }
     ensures capacity { vec_capacity out.old ≤ vec_capacity out.new }

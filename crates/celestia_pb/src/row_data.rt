@@ -1,7 +1,7 @@
 //! What is found in a row as messages RowNamespaceData.
 
 ghost use Rattle.std.specs.Prelude.{◌≡◌, ◌↔◌, ℕ, ◌+◌, ◌*◌, ◌≤◌, ◌^◌, ◌++◌, length, vec_len, vec_capacity, true, false, None, option_map, Ok, Err, IfOk, IfErr, IfSome, IsErrOf};
-ghost use Rattle.namespace_id.specs.Answers.{HasRoom};
+ghost use Rattle.namespace_id.specs.Answers.{HasCapacity};
 ghost use Rattle.namespace_id.specs.Sizes.{greatest_width, most_nodes};
 ghost use Rattle.celestia_pb.specs.Reading.{ReadsMessage};
 ghost use Rattle.celestia_pb.specs.Messages.{optional_message};
@@ -150,7 +150,7 @@ fn put_row(start: u16, shares: &[Share], nodes: &[Digest], hashes: &[Digest], ou
     requires shares { length shares.now ≤ greatest_width }
     requires few { length nodes.now ≤ most_nodes }
     requires hashes { length hashes.now ≤ 1 }
-    requires room { HasRoom out.old (length (row_text shares.now start nodes.now hashes.now)) }
+    requires capacity { HasCapacity out.old (length (row_text shares.now start nodes.now hashes.now)) }
     ensures appended { out.new.items ≡ out.old.items ++ row_text shares.now start nodes.now hashes.now }
     ensures len { vec_len out.new ≡ vec_len out.old + length (row_text shares.now start nodes.now hashes.now) }
     ensures capacity { vec_capacity out.old ≤ vec_capacity out.new }
@@ -193,7 +193,7 @@ pub fn row_data_size(entry: &NsEntry) -> Option<usize>
 /// CIP-19, "RowNamespaceData"; protobuf, "Encoding".
 pub fn put_row_data(entry: &NsEntry, out: &mut Vec<u8>)
     requires has { found_has_message entry.now.found ≡ true }
-    requires room { HasRoom out.old (length (found_message entry.now.found)) }
+    requires capacity { HasCapacity out.old (length (found_message entry.now.found)) }
     ensures appended { out.new.items ≡ out.old.items ++ found_message entry.now.found }
     ensures len { vec_len out.new ≡ vec_len out.old + length (found_message entry.now.found) }
     ensures capacity { vec_capacity out.old ≤ vec_capacity out.new }

@@ -1,7 +1,7 @@
 //! nmt's message Proof as the answer for a row has it: of shares, or of an absence.
 
 ghost use Rattle.std.specs.Prelude.{◌≡◌, ◌+◌, ◌*◌, ◌≤◌, ◌<◌, ◌^◌, ◌++◌, length, vec_len, vec_capacity, IfOk, IfErr};
-ghost use Rattle.namespace_id.specs.Answers.{HasRoom};
+ghost use Rattle.namespace_id.specs.Answers.{HasCapacity};
 ghost use Rattle.celestia_pb.specs.Reading.{ReadsMessage};
 ghost use Rattle.celestia_pb.specs.Digests.{digests_in, entry_size};
 ghost use Rattle.celestia_pb.specs.Messages.{number_left};
@@ -168,7 +168,7 @@ pub(crate) fn put_row_proof(
     out: &mut Vec<u8>,
 )
     requires shares { count < 2 ^ 16 }
-    requires room { HasRoom out.old (length (row_proof_text start count nodes.now hashes.now)) }
+    requires capacity { HasCapacity out.old (length (row_proof_text start count nodes.now hashes.now)) }
     ensures appended { out.new.items ≡ out.old.items ++ row_proof_text start count nodes.now hashes.now }
     ensures len { vec_len out.new ≡ vec_len out.old + length (row_proof_text start count nodes.now hashes.now) }
     ensures capacity { vec_capacity out.old ≤ vec_capacity out.new }

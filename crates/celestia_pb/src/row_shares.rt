@@ -1,7 +1,7 @@
 //! Shares in repeated fields.
 
 ghost use Rattle.std.specs.Prelude.{◌≡◌, ◌+◌, ◌*◌, ◌≤◌, ◌++◌, length, vec_len, vec_capacity, IfOk, IfErr};
-ghost use Rattle.namespace_id.specs.Answers.{HasRoom};
+ghost use Rattle.namespace_id.specs.Answers.{HasCapacity};
 ghost use Rattle.namespace_id.specs.Sizes.{greatest_width};
 ghost use Rattle.celestia_pb.specs.Reading.{ReadsMessage};
 ghost use Rattle.celestia_pb.specs.RowShares.{shares_text, shares_at, share_entry_size, tagged_shares};
@@ -53,7 +53,7 @@ pub(crate) fn shares_in(alloc: Global, count: usize, bytes: &[u8]) -> Result<Vec
 
 /// Appends shares for which there is capacity, each in its field.
 pub(crate) fn put_shares(shares: &[Share], out: &mut Vec<u8>)
-    requires room { HasRoom out.old (length (shares_text shares.now)) }
+    requires capacity { HasCapacity out.old (length (shares_text shares.now)) }
     ensures appended { out.new.items ≡ out.old.items ++ shares_text shares.now }
     ensures len { vec_len out.new ≡ vec_len out.old + length (shares_text shares.now) }
     ensures capacity { vec_capacity out.old ≤ vec_capacity out.new }

@@ -1,7 +1,7 @@
 //! Samples as messages Sample.
 
 ghost use Rattle.std.specs.Prelude.{◌≡◌, ◌↔◌, ℕ, ◌+◌, ◌≤◌, ◌++◌, length, vec_len, vec_capacity, Option, Ok, Err, IfOk, IfErr, IfSome, IsErrOf};
-ghost use Rattle.namespace_id.specs.Answers.{Gives, HasRoom};
+ghost use Rattle.namespace_id.specs.Answers.{Gives, HasCapacity};
 ghost use Rattle.proto_fields.specs.Spelled.{bytes_field};
 ghost use Rattle.celestia_pb.specs.Reading.{ReadsMessage};
 ghost use Rattle.celestia_pb.specs.Messages.{optional_message};
@@ -191,7 +191,7 @@ pub(crate) fn axis_number(axis: Axis) -> u64
 
 /// Appends the field of a share, for which there is capacity.
 pub(crate) fn put_share(share: &Share, out: &mut Vec<u8>)
-    requires room { HasRoom out.old (length (bytes_field 1 (share_message share.now))) }
+    requires capacity { HasCapacity out.old (length (bytes_field 1 (share_message share.now))) }
     ensures appended { out.new.items ≡ out.old.items ++ bytes_field 1 (share_message share.now) }
     ensures len { vec_len out.new ≡ vec_len out.old + length (bytes_field 1 (share_message share.now)) }
     ensures capacity { vec_capacity out.old ≤ vec_capacity out.new }
@@ -202,7 +202,7 @@ pub(crate) fn put_share(share: &Share, out: &mut Vec<u8>)
 
 /// Appends the field of the proof of the leaf at a place, for which there is capacity.
 pub(crate) fn put_path(place: u16, path: &Path, out: &mut Vec<u8>)
-    requires room { HasRoom out.old (length (bytes_field 2 (inclusion_text place 1 path.now))) }
+    requires capacity { HasCapacity out.old (length (bytes_field 2 (inclusion_text place 1 path.now))) }
     ensures appended { out.new.items ≡ out.old.items ++ bytes_field 2 (inclusion_text place 1 path.now) }
     ensures len { vec_len out.new ≡ vec_len out.old + length (bytes_field 2 (inclusion_text place 1 path.now)) }
     ensures capacity { vec_capacity out.old ≤ vec_capacity out.new }
@@ -229,7 +229,7 @@ pub fn sample_size(cell: Cell, sample: &Sample) -> usize
 ///
 /// CIP-19, "Sample"; protobuf, "Encoding".
 pub fn put_sample(cell: Cell, sample: &Sample, out: &mut Vec<u8>)
-    requires room { HasRoom out.old (length (sample_text cell sample.now)) }
+    requires capacity { HasCapacity out.old (length (sample_text cell sample.now)) }
     ensures appended { out.new.items ≡ out.old.items ++ sample_text cell sample.now }
     ensures len { vec_len out.new ≡ vec_len out.old + length (sample_text cell sample.now) }
     ensures capacity { vec_capacity out.old ≤ vec_capacity out.new }

@@ -1,7 +1,7 @@
 //! Lists of shares, read where they lie and written one after another.
 
 ghost use Rattle.std.specs.Prelude.{◌≡◌, ◌+◌, ◌*◌, ◌≤◌, ◌<◌, ◌^◌, ◌++◌, length, vec_len, vec_capacity, IfOk};
-ghost use Rattle.namespace_id.specs.Answers.{HasRoom};
+ghost use Rattle.namespace_id.specs.Answers.{HasCapacity};
 ghost use Rattle.namespace_id.specs.Sizes.{share_size};
 ghost use Rattle.celestia_pb.specs.ShareLists.{share_behind, shares_behind};
 ghost use Rattle.namespace_id.specs.Shares.{share_bytes};
@@ -45,7 +45,7 @@ pub(crate) fn shares_behind(
 
 /// Appends the bytes of shares, one after another, for which there is capacity.
 pub(crate) fn put_shares(shares: &[Share], out: &mut Vec<u8>)
-    requires room { HasRoom out.old (length (share_bytes shares.now)) }
+    requires capacity { HasCapacity out.old (length (share_bytes shares.now)) }
     ensures appended { out.new.items ≡ out.old.items ++ share_bytes shares.now }
     ensures len { vec_len out.new ≡ vec_len out.old + length (share_bytes shares.now) }
     ensures capacity { vec_capacity out.old ≤ vec_capacity out.new }

@@ -1,7 +1,7 @@
 //! The message NMTProof of one share of a row.
 
 ghost use Rattle.std.specs.Prelude.{◌≡◌, ◌==◌, ◌&&◌, ◌+◌, ◌≤◌, ◌<◌, ◌++◌, length, vec_len, vec_capacity, IfOk, IfErr};
-ghost use Rattle.namespace_id.specs.Answers.{HasRoom};
+ghost use Rattle.namespace_id.specs.Answers.{HasCapacity};
 ghost use Rattle.namespace_id.specs.Sizes.{most_depth};
 ghost use Rattle.celestia_pb.specs.Reading.{ReadsMessage};
 ghost use Rattle.celestia_pb.specs.Messages.{number_left, optional_message};
@@ -100,7 +100,7 @@ pub(crate) fn share_path_size(col: u16, nodes: &[Digest]) -> usize
 
 /// Appends the message, for which there is capacity.
 pub(crate) fn put_share_path(col: u16, nodes: &[Digest], out: &mut Vec<u8>)
-    requires room { HasRoom out.old (length (share_path_text col nodes.now)) }
+    requires capacity { HasCapacity out.old (length (share_path_text col nodes.now)) }
     ensures appended { out.new.items ≡ out.old.items ++ share_path_text col nodes.now }
     ensures len { vec_len out.new ≡ vec_len out.old + length (share_path_text col nodes.now) }
     ensures capacity { vec_capacity out.old ≤ vec_capacity out.new }

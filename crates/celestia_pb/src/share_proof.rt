@@ -1,7 +1,7 @@
 //! Root proofs along a row as messages ShareProof of one share.
 
 ghost use Rattle.std.specs.Prelude.{◌≡◌, ◌↔◌, ℕ, ◌+◌, ◌≤◌, ◌++◌, true, false, None, length, vec_len, vec_capacity, Ok, Err, IfSome, IsErrOf};
-ghost use Rattle.namespace_id.specs.Answers.{HasRoom};
+ghost use Rattle.namespace_id.specs.Answers.{HasCapacity};
 ghost use Rattle.blob_commit.specs.Proofs.{RootedParts};
 ghost use Rattle.proto_fields.specs.Spelled.{bytes_field};
 ghost use Rattle.celestia_pb.specs.Reading.{ReadsMessage};
@@ -14,7 +14,7 @@ use crate::entries::{number_size, part_size, put_entry, put_front};
 use crate::errors::PbError;
 use crate::messages::part_at;
 use crate::rooted_row::{
-    RootedRow, RowPath, Told, put_rooted_row, rooted_row_at, rooted_row_size, wanted_at,
+    RootedRow, RowPath, ShareFacts, put_rooted_row, rooted_row_at, rooted_row_size, wanted_at,
 };
 use crate::share_path::{PROOF, SharePath, put_share_path, share_path_at, share_path_size};
 use axis_roots::Message;
@@ -98,11 +98,11 @@ fn front_at(bytes: &[u8]) -> Result<(Option<Front>, &[u8]), usize>
 }
 
 /// What it tells of the row's proof.
-fn told_by(front: &Option<Front>) -> Option<Told>
+fn told_by(front: &Option<Front>) -> Option<ShareFacts>
     ensures { result ≡ told_by front.now }
 {
     match front {
-        Some(front) => Some(Told {
+        Some(front) => Some(ShareFacts {
             col: front.path.col,
             own: front.names.own,
             parity: front.names.parity,
@@ -264,7 +264,7 @@ pub fn share_proof_size(proof: &RootedMessage) -> Option<usize>
 
 /// Appends the field of the share's proof, for which there is capacity.
 fn put_path(proof: &RootedMessage, out: &mut Vec<u8>)
-    requires room { HasRoom out.old (length (bytes_field 2 (share_part proof.now))) }
+    requires capacity { HasCapacity out.old (length (bytes_field 2 (share_part proof.now))) }
     ensures appended { out.new.items ≡ out.old.items ++ bytes_field 2 (share_part proof.now) }
     ensures len { vec_len out.new ≡ vec_len out.old + length (bytes_field 2 (share_part proof.now)) }
     ensures capacity { vec_capacity out.old ≤ vec_capacity out.new }
@@ -277,7 +277,7 @@ fn put_path(proof: &RootedMessage, out: &mut Vec<u8>)
 
 /// Appends the field of the row's proof, for which there is capacity.
 fn put_row(proof: &RootedMessage, out: &mut Vec<u8>)
-    requires room { HasRoom out.old (length (bytes_field 4 (row_part proof.now))) }
+    requires capacity { HasCapacity out.old (length (bytes_field 4 (row_part proof.now))) }
     ensures appended { out.new.items ≡ out.old.items ++ bytes_field 4 (row_part proof.now) }
     ensures len { vec_len out.new ≡ vec_len out.old + length (bytes_field 4 (row_part proof.now)) }
     ensures capacity { vec_capacity out.old ≤ vec_capacity out.new }
@@ -291,7 +291,7 @@ fn put_row(proof: &RootedMessage, out: &mut Vec<u8>)
 /// Celestia specifications, "Data Structures"; protobuf, "Encoding".
 pub fn put_share_proof(proof: &RootedMessage, out: &mut Vec<u8>)
     requires has { has_share_proof proof.now ≡ true }
-    requires room { HasRoom out.old (length (share_proof_text proof.now)) }
+    requires capacity { HasCapacity out.old (length (share_proof_text proof.now)) }
     ensures appended { out.new.items ≡ out.old.items ++ share_proof_text proof.now }
     ensures len { vec_len out.new ≡ vec_len out.old + length (share_proof_text proof.now) }
     ensures capacity { vec_capacity out.old ≤ vec_capacity out.new }

@@ -104,7 +104,7 @@ impl<'a> Attender<'a> {
     /// heights nothing is had. The count stops at 2^64 - 1.
     fn put_height(&self, text: &mut Vec<u8>) -> u64
         requires empty { text.old.items ≡ [] }
-        requires room { most_missing_lines self.now.names ≤ vec_capacity text.old }
+        requires capacity { most_missing_lines self.now.names ≤ vec_capacity text.old }
         ensures written { (items : List Item) → AttenderStands self.now items →
             text.new.items ≡ height_missing self.now.names items }
         ensures counted { (items : List Item) → AttenderStands self.now items →
@@ -122,7 +122,7 @@ impl<'a> Attender<'a> {
     /// Takes the header of the next height, and writes the missing lines of the one before it.
     fn take_header(&mut self, header: Header, text: &mut Vec<u8>)
         requires empty { text.old.items ≡ [] }
-        requires room { most_missing_lines self.old.names ≤ vec_capacity text.old }
+        requires capacity { most_missing_lines self.old.names ≤ vec_capacity text.old }
         ensures heard { HasHeard self.old self.new (headed header) text.new.items }
         ensures capacity { vec_capacity text.old ≤ vec_capacity text.new }
     {

@@ -1,7 +1,7 @@
 //! A talk with an attender.
 
 ghost use Rattle.std.specs.Prelude.{◌≡◌, ◌≤◌, ◌+◌, vec_capacity};
-ghost use Rattle.da_io.specs.declared.inputs.Ended.TheVariants as call;
+ghost use Rattle.da_io.specs.declared.inputs.LastCall.TheVariants as call;
 ghost use Rattle.da_io.specs.Faults.{count_on};
 ghost use Rattle.frame_payloads.specs.Payloads.{max_payload};
 ghost use Rattle.da_talk.specs.Told.{last_heard, hear_count, say_count};
@@ -27,7 +27,7 @@ pub fn attend<L: Line>(
     line: &mut L,
 ) -> TalkEnd
     requires fresh { IsFreshAttender attender.old }
-    requires room { 5 + max_payload ≤ vec_capacity room.old }
+    requires capacity { 5 + max_payload ≤ vec_capacity room.old }
     requires text { most_missing_lines attender.old.names ≤ vec_capacity text.old }
     ensures talk { Attends L.Line line.old line.new attender.old.names attender.new.status result }
 

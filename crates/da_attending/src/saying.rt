@@ -2,7 +2,7 @@
 
 ghost use Rattle.std.specs.Prelude.{◌≡◌, ◌≤◌, ◌+◌, ◌*◌, ◌^◌, ◌++◌, None, Some, length, vec_len, vec_capacity, MatchOption, OnOk};
 ghost use Rattle.std.specs.List.{flat_map};
-ghost use Rattle.namespace_id.specs.Answers.{HasRoom};
+ghost use Rattle.namespace_id.specs.Answers.{HasCapacity};
 ghost use Rattle.da_following.specs.Follow.{place_text};
 ghost use Rattle.da_attending.specs.Attended.{height_lines, most_missing_lines};
 ghost use Rattle.da_attending.specs.Attenders.{unknown};
@@ -23,7 +23,7 @@ pub fn most_missing(names: &[Namespace]) -> Option<usize>
 
 /// Appends the line of a namespace of which nothing is had at a height.
 fn put_missing_line(text: &mut Vec<u8>, number: u64, name: &Namespace)
-    requires room { HasRoom text.old 105 }
+    requires capacity { HasCapacity text.old 105 }
     ensures appended { text.new.items ≡ text.old.items ++ height_lines number name.now None }
     ensures len { vec_len text.new ≤ vec_len text.old + 105 }
     ensures capacity { vec_capacity text.old ≤ vec_capacity text.new }
@@ -39,7 +39,7 @@ pub(crate) fn put_missing(
     names: &[Namespace],
     known: &BTreeSet<Namespace>,
 ) -> u64
-    requires room { HasRoom text.old (most_missing_lines names.now) }
+    requires capacity { HasCapacity text.old (most_missing_lines names.now) }
     ensures appended { text.new.items ≡ text.old.items ++
         flat_map (λ name. height_lines number name None) (unknown known.now.keys names.now) }
     ensures count { result ≡ length (unknown known.now.keys names.now) }

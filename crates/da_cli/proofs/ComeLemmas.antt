@@ -3,18 +3,18 @@ use Rattle.std.proofs.Common.{◌≡◌, ◌∙◌, ℕ, ◌+◌, ◌-◌, ◌<�
 use Rattle.std.specs.Prelude.{◌⊎◌}
 use Rattle.std.specs.declared.option.Option.{Option}
 use Rattle.da_io.specs.declared.inputs.Inputs as inputs
-use Rattle.da_io.specs.declared.inputs.Ended.{Ended}
+use Rattle.da_io.specs.declared.inputs.LastCall.{LastCall}
 use Rattle.std.proofs.lemmas.Bool.{cases_lt}
 use Rattle.da_io.specs.Faults.{max_count, count_on}
 use Rattle.da_io.specs.Files.{Files}
-use Rattle.da_cli.specs.declared.gathering.Stop.{Stop}
-use Rattle.da_cli.specs.declared.gathering.Stop.TheVariants as stop
+use Rattle.da_cli.specs.declared.files.Stop.{Stop}
+use Rattle.da_cli.specs.declared.files.Stop.TheVariants as stop
 use Rattle.da_cli.specs.Gathered.{Gathered, whole, long, absent, after, gathered_from, IsWord, IsLastOf, IsWithinLimit, AllRead, GathersFiles, ReadsFile, StopsFile, WithinLimit, WithinLimits, count_after}
 use Rattle.da_cli.specs.Streamed.{IsRead, HasCome}
 use Rattle.da_cli.proofs.GatheredLemmas.{come_on, name_at, stop_here, stop_in, all_read_on, last_on, stop_picks}
 
 -- file i, which was picked last, kept its limit
-pub within_here : (limits : ℕ → ℕ) (names : List (List ℕ)) (i count : ℕ) (name : List ℕ) (picked : Option (List ℕ)) (last : Ended) (given : ℕ) (Idle : Type 0) (why : Stop)
+pub within_here : (limits : ℕ → ℕ) (names : List (List ℕ)) (i count : ℕ) (name : List ℕ) (picked : Option (List ℕ)) (last : LastCall) (given : ℕ) (Idle : Type 0) (why : Stop)
     → drop i names ≡ name ∷ drop (i + 1) names → picked ≡ Some name → StopsFile (limits i) i last given why
     → WithinLimit {T = List ℕ} (limits i) given (Err why) → WithinLimits limits names count picked given Idle (Err why)
 within_here limits names i count name picked last given Idle (stop.PickFault j) here named why h = subst (λ (n : ℕ). given ≤ limits n) (sym why.0) h
@@ -24,7 +24,7 @@ within_here limits names i count name picked last given Idle stop.NoMemory here 
     inr (i, subst (IsWord names i) (sym named) (name_at names i name (drop (i + 1) names) here), h)
 
 -- where memory ran out, the file picked last kept its limit, or none was picked
-pub memory_within : (limits : ℕ → ℕ) (names : List (List ℕ)) (n : ℕ) (picked : Option (List ℕ)) (last : Ended) (given : ℕ) (Idle : Type 0) → IsLastOf names n picked last
+pub memory_within : (limits : ℕ → ℕ) (names : List (List ℕ)) (n : ℕ) (picked : Option (List ℕ)) (last : LastCall) (given : ℕ) (Idle : Type 0) → IsLastOf names n picked last
     → (0 < n → given ≤ limits (n - 1)) → (n ≡ 0 → Idle) → Idle ⊎ IsWithinLimit limits names picked given
 memory_within limits names n picked last given Idle at few idle =
     ⊎_elim (λ (k : 0 < n). inr (n - 1, (at k).0, few k)) (λ (k : n ≤ 0). inl (idle (omega (arith, k)))) (cases_lt 0 n)

@@ -7,12 +7,12 @@ use Rattle.std.proofs.lemmas.Bool.Decides.{nat_tests}
 use Rattle.std.proofs.lemmas.List.{length-map}
 use Rattle.std.proofs.lemmas.Grind.{common_steps}
 use Rattle.da_io.specs.Files.{Files}
-use Rattle.da_io.specs.declared.inputs.Ended.{Ended}
-use Rattle.da_cli.specs.declared.gathering.Stop.{Stop}
-use Rattle.da_cli.specs.declared.gathering.Stop.TheVariants.{PickFault, ReadFault, TooLong, NoMemory}
+use Rattle.da_io.specs.declared.inputs.LastCall.{LastCall}
+use Rattle.da_cli.specs.declared.files.Stop.{Stop}
+use Rattle.da_cli.specs.declared.files.Stop.TheVariants.{PickFault, ReadFault, TooLong, NoMemory}
 use Rattle.da_cli.specs.Words.{words_of, files_named}
 use Rattle.da_io.specs.Faults.{count_on}
-use Rattle.da_io.specs.declared.inputs.Ended.TheVariants as ended
+use Rattle.da_io.specs.declared.inputs.LastCall.TheVariants as ended
 use Rattle.da_files.specs.Contents.{contents_of, file_of}
 use Rattle.da_cli.specs.Gathered.{Gathered, whole, long, absent, after, gathered_one, gathered_from, gathered, IsWord, IsLastOf, PicksIn, ReadsFile, StopsFile, GathersFiles, StopsIn, AllRead}
 use Rattle.da_cli.proofs.WordLemmas.{length-named}
@@ -102,7 +102,7 @@ all_gathered limits (Some files) names count contents come h =
     come ∙ ap (λ (ns : List (List ℕ)). after contents (gathered_from limits files count ns)) none ∙ ap whole (append-nil contents)
 
 -- file i was not read whole
-pub stop_here : (limits : ℕ → ℕ) (told : Option Files) (names : List (List ℕ)) (i count : ℕ) (contents : List (List ℕ)) (name : List ℕ) (last : Ended) (given : ℕ) (stop : Stop)
+pub stop_here : (limits : ℕ → ℕ) (told : Option Files) (names : List (List ℕ)) (i count : ℕ) (contents : List (List ℕ)) (name : List ℕ) (last : LastCall) (given : ℕ) (stop : Stop)
     → GathersFiles limits told names i (Ok contents) → drop i names ≡ name ∷ drop (i + 1) names → ReadsFile (limits i) told name (Err stop)
     → StopsFile (limits i) i last given stop → GathersFiles limits told names count (Err stop)
 stop_here limits None names i count contents name last given stop come here read why = tt
@@ -124,7 +124,7 @@ name_at (n ∷ names) zero name later e = (omega arith, cc)
 name_at (n ∷ names) (suc i) name later e = let rest = name_at names i name later e in (omega (arith, rest.0), rest.1)
 
 -- the file that stopped it is the one with its number
-pub stop_in : (limits : ℕ → ℕ) (told : Option Files) (names : List (List ℕ)) (i : ℕ) (name : List ℕ) (picked : Option (List ℕ)) (last : Ended) (given : ℕ) (stop : Stop)
+pub stop_in : (limits : ℕ → ℕ) (told : Option Files) (names : List (List ℕ)) (i : ℕ) (name : List ℕ) (picked : Option (List ℕ)) (last : LastCall) (given : ℕ) (stop : Stop)
     → drop i names ≡ name ∷ drop (i + 1) names → AllRead limits told names i → picked ≡ Some name → StopsFile (limits i) i last given stop
     → StopsIn limits told names picked last given stop
 stop_in limits told names i name picked last given (PickFault j) here all files_named why =
@@ -139,14 +139,14 @@ stop_in limits told names i name picked last given (TooLong j) here all files_na
 stop_in limits told names i name picked last given NoMemory here all files_named why = tt
 
 -- the name at a place was picked last
-pub last_on : (names : List (List ℕ)) (i : ℕ) (name : List ℕ) (picked : Option (List ℕ)) (last : Ended) → drop i names ≡ name ∷ drop (i + 1) names
+pub last_on : (names : List (List ℕ)) (i : ℕ) (name : List ℕ) (picked : Option (List ℕ)) (last : LastCall) → drop i names ≡ name ∷ drop (i + 1) names
     → picked ≡ Some name → last ≡ ended.Fine → IsLastOf names (i + 1) picked last
 last_on names i name picked last here files_named fine =
     let same : i ≡ i + 1 - 1 = omega arith in
     λ some. (subst (λ (j : ℕ). IsWord names j picked) same (subst (IsWord names i) (sym files_named) (name_at names i name (drop (i + 1) names) here)), fine)
 
 -- how many files were picked when file i was not read whole
-pub stop_picks : (limit i before now count : ℕ) (last : Ended) (given : ℕ) (stop : Stop) → i < count → StopsFile limit i last given stop
+pub stop_picks : (limit i before now count : ℕ) (last : LastCall) (given : ℕ) (stop : Stop) → i < count → StopsFile limit i last given stop
     → now ≡ count_on before (i + 1) → PicksIn {T = List (List ℕ)} before now count (Err stop)
 stop_picks limit i before now count last given (PickFault j) h why e = e ∙ ap (λ (k : ℕ). count_on before (k + 1)) (sym why.0)
 stop_picks limit i before now count last given (ReadFault j) h why e = e ∙ ap (λ (k : ℕ). count_on before (k + 1)) (sym why.0)

@@ -3,11 +3,11 @@ use Rattle.std.proofs.Common.{◌≡◌, ◌∙◌, ℕ, zero, suc, ◌-◌, ◌
 use Rattle.std.specs.declared.option.Option.{Option}
 use Rattle.da_io.specs.Faults.{count_on}
 use Rattle.da_io.specs.Files.{Files}
-use Rattle.da_io.specs.declared.inputs.Ended.{Ended}
+use Rattle.da_io.specs.declared.inputs.LastCall.{LastCall}
 use Rattle.da_io.specs.declared.inputs.Inputs as inputs
 use Rattle.da_io.specs.declared.sink.Sink as sink
-use Rattle.da_cli.specs.declared.gathering.Stop.{Stop}
-use Rattle.da_cli.specs.declared.gathering.Stop.TheVariants as stop
+use Rattle.da_cli.specs.declared.files.Stop.{Stop}
+use Rattle.da_cli.specs.declared.files.Stop.TheVariants as stop
 use Rattle.da_status.specs.declared.status.Status.{Status}
 use Rattle.da_status.specs.declared.status.Status.TheVariants.{Usage, PickFault, ReadFault, TooLong}
 use Rattle.da_cli.specs.declared.words.Call.{Call}
@@ -27,7 +27,7 @@ use Rattle.da_cli.proofs.RunLemmas.{command_told, stopped_told, files_count}
 -- ---- a command's own status, which comes after all files were read
 
 -- a command's status names no failed pick or read
-fault_own : (limits : ℕ → ℕ) (told : Option Files) (names : List (List ℕ)) (picked : Option (List ℕ)) (last : Ended) (status : Status) → IsOwnBy (status_kind status)
+fault_own : (limits : ℕ → ℕ) (told : Option Files) (names : List (List ℕ)) (picked : Option (List ℕ)) (last : LastCall) (status : Status) → IsOwnBy (status_kind status)
     → FaultCause limits told names picked last status
 fault_own limits told names picked last (PickFault i) own = absurd own
 fault_own limits told names picked last (ReadFault i) own = absurd own
@@ -106,7 +106,7 @@ stop_untouched Same (stop.TooLong i) same = same
 stop_untouched Same stop.NoMemory same = tt
 
 -- the failed pick or read that stopped the reading is the cause of the status
-stop_fault : (limits : ℕ → ℕ) (told : Option Files) (names : List (List ℕ)) (picked : Option (List ℕ)) (last : Ended) (given : ℕ) (stop : Stop)
+stop_fault : (limits : ℕ → ℕ) (told : Option Files) (names : List (List ℕ)) (picked : Option (List ℕ)) (last : LastCall) (given : ℕ) (stop : Stop)
     → StopsIn limits told names picked last given stop → FaultCause limits told names picked last (status_of stop)
 stop_fault limits told names picked last given (stop.PickFault i) why = why
 stop_fault limits told names picked last given (stop.ReadFault i) why = why
@@ -124,7 +124,7 @@ memory_given zero Fact Idle few idle = inl (idle refl)
 memory_given (suc n) Fact Idle few idle = few (omega arith)
 
 -- the file that was too long is the cause of the status; with another one no file was
-stop_excess : (limits : ℕ → ℕ) (told : Option Files) (names : List (List ℕ)) (count : ℕ) (picked : Option (List ℕ)) (last : Ended) (given : ℕ) (Idle : Type 0) (stop : Stop)
+stop_excess : (limits : ℕ → ℕ) (told : Option Files) (names : List (List ℕ)) (count : ℕ) (picked : Option (List ℕ)) (last : LastCall) (given : ℕ) (Idle : Type 0) (stop : Stop)
     → StopsIn limits told names picked last given stop → (0 < length names → WithinLimits limits names count picked given Idle (Err stop))
     → (length names ≡ 0 → Idle) → ExcessCause limits told names picked given Idle (status_of stop)
 stop_excess limits told names count picked last given Idle (stop.PickFault i) why few idle = few (some_names names i picked why.1)

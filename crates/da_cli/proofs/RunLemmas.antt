@@ -16,8 +16,8 @@ use Rattle.da_status.specs.Statuses.{Kind, usage, fault, excess, form, request, 
 use Rattle.da_cli.specs.Words.{words_of, call_of, words_before, last_file, file_words, plain_count, files_named, call_names, files_of_call, files_of_words}
 use Rattle.da_cli.specs.Limits.{file_limits, limits_for, limits_in, limits_of}
 use Rattle.da_cli.specs.Gathered.{Gathered, whole, long, absent, gathered, GathersFiles}
-use Rattle.da_cli.specs.declared.gathering.Stop.{Stop}
-use Rattle.da_cli.specs.declared.gathering.Stop.TheVariants as stop
+use Rattle.da_cli.specs.declared.files.Stop.{Stop}
+use Rattle.da_cli.specs.declared.files.Stop.TheVariants as stop
 use Rattle.da_status.specs.Outcome.{Relation, Refuses, Outputs, LeavesBy, Leaves}
 use Rattle.da_status.specs.Judging.{first_bad, Judged}
 use Rattle.da_commands.specs.Meaning.{judged_of, AnswerOf, Meaning}

@@ -7,8 +7,8 @@ use Rattle.da_io.specs.declared.inputs.Inputs as inputs
 use Rattle.da_io.specs.declared.sink.Sink as sink
 use Rattle.da_io.specs.Faults.{max_count}
 use Rattle.da_wire.specs.Frames.{frames_of, bad_frame}
-use Rattle.da_cli.specs.declared.gathering.Stop.{Stop}
-use Rattle.da_cli.specs.declared.gathering.Stop.TheVariants as stop
+use Rattle.da_cli.specs.declared.files.Stop.{Stop}
+use Rattle.da_cli.specs.declared.files.Stop.TheVariants as stop
 use Rattle.da_status.specs.declared.status.Status.{Status}
 use Rattle.da_status.specs.declared.status.Status.TheVariants.{BadInput}
 use Rattle.da_commands.specs.declared.command.Command.TheVariants.{Repair}

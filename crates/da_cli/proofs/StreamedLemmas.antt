@@ -3,8 +3,8 @@ use Rattle.std.proofs.Common.{◌≡◌, ◌∙◌, ℕ, ◌+◌, ◌≤◌, Lis
 use Rattle.std.specs.Io.KnownBytes.{Consumes}
 use Rattle.std.proofs.KnownBytes.{Consumes-trans}
 use Rattle.da_io.specs.declared.inputs.Inputs as inputs
-use Rattle.da_io.specs.declared.inputs.Ended.{Ended}
-use Rattle.da_io.specs.declared.inputs.Ended.TheVariants as ended
+use Rattle.da_io.specs.declared.inputs.LastCall.{LastCall}
+use Rattle.da_io.specs.declared.inputs.LastCall.TheVariants as ended
 use Rattle.da_io.specs.declared.inputs.PickFailed.{PickFailed}
 use Rattle.da_io.specs.Faults.{max_count, count_on}
 use Rattle.da_io.specs.Files.{Picks}
@@ -20,7 +20,7 @@ module _ {I : Type 0} (i : inputs.Ghosts I) where
     pub files : i.files now ≡ i.files before
 
   -- bytes were read then, with so many failures, and the last read ended so
-  pub record HasRead (mid now : I) (bytes : List ℕ) (faults : ℕ) (last : Ended) : Type 0 where
+  pub record HasRead (mid now : I) (bytes : List ℕ) (faults : ℕ) (last : LastCall) : Type 0 where
     pub moved : Consumes (i.rest mid) (i.rest now) bytes
     pub counted : i.given now ≡ count_on (i.given mid) (length bytes)
     pub faults_are : i.faults now ≡ count_on (i.faults mid) faults

@@ -2,7 +2,7 @@
 use Rattle.std.proofs.Common.{◌≡◌, ℕ, ◌+◌, ◌-◌, ◌<◌, List, String, Global, Option, length, take, drop, Some, Result, Ok, Err, sym, ap, subst}
 use Rattle.da_io.specs.declared.inputs.Inputs as inputs
 use Rattle.da_io.specs.declared.sink.Sink as sink
-use Rattle.da_cli.specs.declared.gathering.Stop.{Stop}
+use Rattle.da_cli.specs.declared.files.Stop.{Stop}
 use Rattle.da_status.specs.declared.status.Status.{Status}
 use Rattle.da_cli.specs.declared.words.Call.{Call}
 use Rattle.da_commands.specs.declared.command.Command.{Command}

@@ -1,8 +1,8 @@
 -- What a status says of the inputs: of which file it speaks, and what was picked and read.
 use Rattle.std.specs.Prelude.{◌≡◌, ℕ, ◌+◌, ◌-◌, ◌<◌, ◌≤◌, List, length, ⊤, ◌⊎◌}
 use Rattle.std.specs.declared.option.Option.{Option}
-use Rattle.da_io.specs.declared.inputs.Ended.{Ended}
-use Rattle.da_io.specs.declared.inputs.Ended.TheVariants as ended
+use Rattle.da_io.specs.declared.inputs.LastCall.{LastCall}
+use Rattle.da_io.specs.declared.inputs.LastCall.TheVariants as ended
 use Rattle.da_io.specs.Faults.{count_on}
 use Rattle.da_io.specs.Files.{Files}
 use Rattle.da_status.specs.declared.status.Status.{Status}
@@ -12,7 +12,7 @@ use Rattle.da_cli.specs.Gathered.{IsWord, AllRead, IsWithinLimit}
 
 -- a failed pick or read was the last call on the inputs, of the file word with that number, and each
 -- file before it is there and within its limit, where files are told
-abbrev pub FaultCause : (ℕ → ℕ) → Option Files → List (List ℕ) → Option (List ℕ) → Ended → Status → Type 0
+abbrev pub FaultCause : (ℕ → ℕ) → Option Files → List (List ℕ) → Option (List ℕ) → LastCall → Status → Type 0
 FaultCause limits told names picked last (PickFault i) = (last ≡ ended.PickFailed) × IsWord names i picked × AllRead limits told names i
 FaultCause limits told names picked last (ReadFault i) = (last ≡ ended.ReadFailed) × IsWord names i picked × AllRead limits told names i
 FaultCause limits told names picked last status = ⊤

@@ -7,8 +7,8 @@ use Rattle.std.specs.Io.KnownBytes.{Consumes, IsAtEnd}
 use Rattle.data_header.specs.Headers.{Roots}
 use Rattle.axis_roots.specs.declared.message.messages.Message.{Message}
 use Rattle.axis_roots.specs.Messages.{message_refusal}
-use Rattle.da_io.specs.declared.inputs.Ended.{Ended}
-use Rattle.da_io.specs.declared.inputs.Ended.TheVariants as ended
+use Rattle.da_io.specs.declared.inputs.LastCall.{LastCall}
+use Rattle.da_io.specs.declared.inputs.LastCall.TheVariants as ended
 use Rattle.da_io.specs.Faults.{count_on}
 use Rattle.da_wire.specs.Reading.{Raw}
 use Rattle.da_wire.specs.Frames.{frames_of, bad_frame, raw_message}
@@ -103,7 +103,7 @@ fed_faults (Err (TooLong n)) = 0
 fed_faults (Err (Bad at)) = 0
 
 -- how the last read ended
-abbrev pub fed_end : Result ℕ FeedFault → Ended
+abbrev pub fed_end : Result ℕ FeedFault → LastCall
 fed_end (Ok lies) = ended.Fine
 fed_end (Err ReadFailed) = ended.ReadFailed
 fed_end (Err (TooLong n)) = ended.Fine

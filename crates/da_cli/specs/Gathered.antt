@@ -5,10 +5,10 @@ use Rattle.std.specs.declared.option.Option.{Option}
 use Rattle.std.specs.declared.alloc.Global.{Global}
 use Rattle.da_io.specs.Faults.{count_on}
 use Rattle.da_io.specs.Files.{Files}
-use Rattle.da_io.specs.declared.inputs.Ended.{Ended}
-use Rattle.da_io.specs.declared.inputs.Ended.TheVariants as ended
-use Rattle.da_cli.specs.declared.gathering.Stop.{Stop}
-use Rattle.da_cli.specs.declared.gathering.Stop.TheVariants.{PickFault, ReadFault, TooLong, NoMemory}
+use Rattle.da_io.specs.declared.inputs.LastCall.{LastCall}
+use Rattle.da_io.specs.declared.inputs.LastCall.TheVariants as ended
+use Rattle.da_cli.specs.declared.files.Stop.{Stop}
+use Rattle.da_cli.specs.declared.files.Stop.TheVariants.{PickFault, ReadFault, TooLong, NoMemory}
 use Rattle.da_files.specs.Contents.{contents_of, file_of}
 
 -- the contents of all; or the first that is longer than its limit; or the first that isn't there
@@ -54,11 +54,11 @@ IsWord names i None = ⊥
 IsWord names i (Some name) = (i < length names) × (file_of names i ≡ name)
 
 -- the last call was of the last of the first `count` names, and did not fail
-abbrev pub IsLastOf : List (List ℕ) → ℕ → Option (List ℕ) → Ended → Type 0
+abbrev pub IsLastOf : List (List ℕ) → ℕ → Option (List ℕ) → LastCall → Type 0
 IsLastOf names count picked last = 0 < count → IsWord names (count - 1) picked × (last ≡ ended.Fine)
 
 -- the last call was of the last of all names, and did not fail
-abbrev pub IsLast : List (List ℕ) → Option (List ℕ) → Ended → Type 0
+abbrev pub IsLast : List (List ℕ) → Option (List ℕ) → LastCall → Type 0
 IsLast names picked last = IsLastOf names (length names) picked last
 
 -- each file before number i is there and within its limit, where files are told
@@ -88,7 +88,7 @@ GathersFiles limits (Some files) names count (Err NoMemory) = ⊤
 
 -- why reading file i, which has this name, stopped: a failure was the last call, more than the limit
 -- was given
-abbrev pub StopsFile : ℕ → ℕ → Ended → ℕ → Stop → Type 0
+abbrev pub StopsFile : ℕ → ℕ → LastCall → ℕ → Stop → Type 0
 StopsFile limit i last given (PickFault j) = (j ≡ i) × (last ≡ ended.PickFailed)
 StopsFile limit i last given (ReadFault j) = (j ≡ i) × (last ≡ ended.ReadFailed)
 StopsFile limit i last given (TooLong j) = (j ≡ i) × (limit < given)
@@ -96,7 +96,7 @@ StopsFile limit i last given NoMemory = ⊤
 
 -- why reading the files stopped: the last call was of the named word, and each file before it is there
 -- and within its limit, where files are told
-abbrev pub StopsIn : (ℕ → ℕ) → Option Files → List (List ℕ) → Option (List ℕ) → Ended → ℕ → Stop → Type 0
+abbrev pub StopsIn : (ℕ → ℕ) → Option Files → List (List ℕ) → Option (List ℕ) → LastCall → ℕ → Stop → Type 0
 StopsIn limits told names picked last given (PickFault i) = (last ≡ ended.PickFailed) × IsWord names i picked × AllRead limits told names i
 StopsIn limits told names picked last given (ReadFault i) = (last ≡ ended.ReadFailed) × IsWord names i picked × AllRead limits told names i
 StopsIn limits told names picked last given (TooLong i) = (limits i < given) × IsWord names i picked × AllRead limits told names i

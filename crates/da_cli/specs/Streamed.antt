@@ -3,10 +3,10 @@ use Rattle.std.specs.Prelude.{◌≡◌, ℕ, ◌<◌, List, Some, None, Ok, Err
 use Rattle.data_header.specs.Headers.{Roots}
 use Rattle.axis_roots.specs.declared.message.messages.Message.{Message}
 use Rattle.da_io.specs.declared.inputs.Inputs as inputs
-use Rattle.da_io.specs.declared.inputs.Ended.TheVariants as ended
+use Rattle.da_io.specs.declared.inputs.LastCall.TheVariants as ended
 use Rattle.da_io.specs.Faults.{count_on}
 use Rattle.da_wire.specs.Frames.{frames_of, bad_frame}
-use Rattle.da_cli.specs.declared.gathering.Stop.{Stop}
+use Rattle.da_cli.specs.declared.files.Stop.{Stop}
 use Rattle.da_cli.specs.Limits.{stream_limit}
 use Rattle.da_cli.specs.Gathered.{IsLastOf, PicksIn, StopsIn, AllRead, GathersFiles, ReadsFile, StopsFile, count_after, WithinLimit, WithinLimits}
 use Rattle.da_cli.specs.Feeding.{proved_among, lies_among}

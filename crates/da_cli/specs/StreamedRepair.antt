@@ -4,13 +4,13 @@ use Rattle.data_header.specs.Headers.{Roots}
 use Rattle.da_io.specs.declared.inputs.Inputs as inputs
 use Rattle.da_io.specs.declared.sink.Sink as sink
 use Rattle.da_wire.specs.Frames.{frames_of, bad_frame}
-use Rattle.da_cli.specs.declared.gathering.Stop.{Stop}
+use Rattle.da_cli.specs.declared.files.Stop.{Stop}
 use Rattle.da_status.specs.declared.status.Status.{Status}
 use Rattle.da_status.specs.declared.status.Status.TheVariants.{BadInput}
 use Rattle.da_status.specs.Outcome.{EndsAtOnce}
 use Rattle.da_cli.specs.Limits.{stream_limit, repair_limits}
 use Rattle.da_cli.specs.Streamed.{IsRead, HasCome}
-use Rattle.da_cli.specs.declared.gathering.Stop.TheVariants.{NoMemory}
+use Rattle.da_cli.specs.declared.files.Stop.TheVariants.{NoMemory}
 use Rattle.da_commands.specs.declared.command.Command.TheVariants.{Repair}
 use Rattle.da_judging.specs.Repair.{Repairs}
 use Rattle.da_commands.specs.Meaning.{Meaning}

@@ -60,8 +60,8 @@ ghost use Rattle.blob_commit.specs.Proofs.{CommitParts, CommitHolds, RootedParts
 ghost use Rattle.da_cli.specs.Own.{ProvesOwn};
 ghost use Rattle.da_cli.specs.Laws.{FormLaw, BadInputLaw, ExcessLaw, AbsentLaw, FailureLaw, IsWantedFirst};
 
-use crate::gathering::FILE_LIMIT;
-use crate::streaming::STREAM_LIMIT;
+use crate::files::FILE_LIMIT;
+use crate::passes::STREAM_LIMIT;
 use axis_roots::{claim_laws, grid_laws, message_laws};
 use blob_commit::{commit_laws, refusal_laws};
 use da_commands::follow_laws;

@@ -6,19 +6,19 @@
 #![tactic(auto)]
 
 mod feeding;
+mod files;
 mod forms;
-mod gathering;
 mod laws;
+mod passes;
+mod repair;
 mod running;
-mod streamed;
-mod streaming;
 mod values;
 mod words;
 
 pub use da_status::{Asked, Status};
 pub use feeding::{FeedFault, feed_all};
-pub use gathering::FILE_LIMIT;
+pub use files::FILE_LIMIT;
 pub use laws::run_laws;
+pub use passes::STREAM_LIMIT;
 pub use running::run;
-pub use streaming::STREAM_LIMIT;
 pub use values::{is_key_name, key_in, key_name, number_in};

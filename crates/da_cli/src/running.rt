@@ -15,9 +15,9 @@ ghost use Rattle.da_cli.specs.Own.{AreOwn};
 ghost use Rattle.da_cli.specs.Ran.{Ran};
 ghost use Rattle.da_cli.specs.Run.{IsEarly, status_of, LeavesTold, Completes};
 
-use crate::gathering::{Stop, gather};
+use crate::files::{Stop, gather};
 use crate::laws::run_laws;
-use crate::streamed::stream;
+use crate::repair::stream;
 use crate::words::{Call, call_of, file_words, plain_count};
 use da_commands::{Command, execute};
 use da_io::{Inputs, Sink};

@@ -6,7 +6,7 @@ use Rattle.std.specs.Option.{option_map_or}
 use Rattle.namespace_id.specs.declared.namespaces.Namespace.{Namespace}
 use Rattle.da_io.specs.Files.{Files}
 use Rattle.da_io.specs.declared.inputs.Inputs as inputs
-use Rattle.da_io.specs.declared.inputs.Ended.{Ended}
+use Rattle.da_io.specs.declared.inputs.LastCall.{LastCall}
 use Rattle.da_io.specs.declared.sink.Sink as sink
 use Rattle.da_wire.specs.Spelling.{request_kind}
 use Rattle.da_wire.specs.Values.{bad_value}
@@ -26,7 +26,7 @@ abbrev pub wanted_in : List ℕ → Result (List ℕ) ℕ
 wanted_in bytes = option_map_or Err (bad_value (request_kind ∷ []) bytes) (Ok bytes)
 
 -- the requests in the file with a name, WANTED, or why there are none
-abbrev pub ReadsWanted : Option Files → List ℕ → Ended → ℕ → Result (Vec ℕ Global) Status → Type 0
+abbrev pub ReadsWanted : Option Files → List ℕ → LastCall → ℕ → Result (Vec ℕ Global) Status → Type 0
 ReadsWanted told name last given (Ok content) = HasValue wanted_in told name (Ok content.items)
 ReadsWanted told name last given (Err why) = IsNoValue wanted_in 0 told name last given why
 

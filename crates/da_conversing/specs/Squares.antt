@@ -2,7 +2,7 @@
 use Rattle.std.specs.Prelude.{ℕ, List, ⊤, Ok, Err, Result}
 use Rattle.std.specs.declared.option.Option.{Option}
 use Rattle.da_io.specs.Files.{Files}
-use Rattle.da_io.specs.declared.inputs.Ended.{Ended}
+use Rattle.da_io.specs.declared.inputs.LastCall.{LastCall}
 use Rattle.square_layout.specs.Blocks.{SquareShares}
 use Rattle.square_serve.specs.Serving.{HeldParts, Holds}
 use Rattle.axis_roots.specs.Grids.{HasNoHeader}
@@ -17,11 +17,11 @@ abbrev pub HasSquare : Option Files → List ℕ → Result SquareShares ℕ →
 HasSquare told name square = HasValue square_in told name square
 
 -- why file 0, which has this name, isn't a square: it isn't read, or leaves the form of a square
-abbrev pub IsNoSquare : Option Files → List ℕ → Ended → ℕ → Status → Type 0
+abbrev pub IsNoSquare : Option Files → List ℕ → LastCall → ℕ → Status → Type 0
 IsNoSquare told name last given why = IsNoValue square_in 0 told name last given why
 
 -- the square that it is, or why it is none
-abbrev pub ReadsSquare : Option Files → List ℕ → Ended → ℕ → Result SquareShares Status → Type 0
+abbrev pub ReadsSquare : Option Files → List ℕ → LastCall → ℕ → Result SquareShares Status → Type 0
 ReadsSquare told name last given square = ReadsValue square_in 0 told name last given square
 
 -- a square is held, or has no header, or memory ran out

@@ -4,7 +4,7 @@ use Rattle.std.specs.declared.option.Option.{Option}
 use Rattle.std.specs.Io.KnownBytes.{Appends, Consumes}
 use Rattle.da_io.specs.declared.inputs.Inputs as inputs
 use Rattle.da_io.specs.declared.sink.Sink as sink
-use Rattle.da_io.specs.declared.inputs.Ended.TheVariants as call
+use Rattle.da_io.specs.declared.inputs.LastCall.TheVariants as call
 use Rattle.da_io.specs.Faults.{count_on}
 use Rattle.da_wire.specs.Frames.{frames_of}
 use Rattle.da_status.specs.declared.status.Status.{Status}

@@ -3,7 +3,7 @@
 ghost use Rattle.std.specs.Prelude.{◌≡◌, ◌≢◌, ◌≤◌, ◌+◌, ◌↔◌, Some, true, IsSome, vec_capacity};
 ghost use Rattle.std.specs.String.{string_bytes};
 ghost use Rattle.frame_payloads.specs.Payloads.{max_payload};
-ghost use Rattle.da_io.specs.declared.inputs.Ended.TheVariants.{Fine};
+ghost use Rattle.da_io.specs.declared.inputs.LastCall.TheVariants.{Fine};
 ghost use Rattle.da_io.specs.Faults.{count_on};
 ghost use Rattle.da_status.specs.declared.status.Status.TheVariants.{Usage};
 ghost use Rattle.da_status.specs.Statuses.{status_kind, input_count, output_count};
@@ -44,7 +44,7 @@ fn talk<I: Inputs, O: Sink>(
     out: &mut O,
 ) -> TalkEnd
     requires fresh { IsFreshAttender attender.old }
-    requires room { 5 + max_payload ≤ vec_capacity room.old }
+    requires capacity { 5 + max_payload ≤ vec_capacity room.old }
     requires text { most_missing_lines attender.old.names ≤ vec_capacity text.old }
     requires fine { I.ended inputs.old ≡ Fine }
     ensures talk { ToldOver I.Inputs O.Sink (attending attender.old.names) inputs.old inputs.new
@@ -69,7 +69,7 @@ fn talk_over<I: Inputs, O: Sink>(
     out: &mut O,
 ) -> Status
     requires fresh { IsFreshAttender attender.old }
-    requires room { 5 + max_payload ≤ vec_capacity room.old }
+    requires capacity { 5 + max_payload ≤ vec_capacity room.old }
     requires text { most_missing_lines attender.old.names ≤ vec_capacity text.old }
     ensures talk { TellsOver I.Inputs O.Sink (attending attender.old.names) Some 1
         (string_bytes name) inputs.old inputs.new out.old out.new result }

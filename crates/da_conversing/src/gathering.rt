@@ -3,7 +3,7 @@
 ghost use Rattle.std.specs.Prelude.{◌≡◌, ◌≢◌, ◌≤◌, ◌+◌, ◌↔◌, true, IsSome, vec_capacity};
 ghost use Rattle.std.specs.String.{string_bytes};
 ghost use Rattle.frame_payloads.specs.kinds.Message.{most_message};
-ghost use Rattle.da_io.specs.declared.inputs.Ended.TheVariants.{Fine};
+ghost use Rattle.da_io.specs.declared.inputs.LastCall.TheVariants.{Fine};
 ghost use Rattle.da_io.specs.Faults.{count_on};
 ghost use Rattle.da_status.specs.declared.status.Status.TheVariants.{Usage};
 ghost use Rattle.da_status.specs.Statuses.{status_kind, input_count, output_count};
@@ -41,7 +41,7 @@ fn talk<I: Inputs, O: Sink>(
     out: &mut O,
 ) -> TalkEnd
     requires fresh { IsFreshGathering gatherer.old }
-    requires room { 5 + most_message ≤ vec_capacity room.old }
+    requires capacity { 5 + most_message ≤ vec_capacity room.old }
     requires text { most_gathered gatherer.old.header.k ≤ vec_capacity text.old }
     requires fine { I.ended inputs.old ≡ Fine }
     ensures talk { ToldOver I.Inputs O.Sink (gathering gatherer.old.header) inputs.old inputs.new
@@ -66,7 +66,7 @@ fn talk_over<I: Inputs, O: Sink>(
     out: &mut O,
 ) -> Status
     requires fresh { IsFreshGathering gatherer.old }
-    requires room { 5 + most_message ≤ vec_capacity room.old }
+    requires capacity { 5 + most_message ≤ vec_capacity room.old }
     requires text { most_gathered gatherer.old.header.k ≤ vec_capacity text.old }
     ensures talk { TellsOver I.Inputs O.Sink (gathering gatherer.old.header) (λ kept. kept) 1
         (string_bytes name) inputs.old inputs.new out.old out.new result }

@@ -36,7 +36,7 @@ fn talk<I: Inputs, O: Sink>(
     inputs: &mut I,
     out: &mut O,
 ) -> Ended
-    requires room { most_reply held.old.k ≤ vec_capacity text.old }
+    requires capacity { most_reply held.old.k ≤ vec_capacity text.old }
     ensures talk { Talked I.Inputs O.Sink inputs.old inputs.new out.old out.new
         (due (held_reply held.old)) result }
     ensures input_faults { I.faults inputs.new ≡ count_on (I.faults inputs.old) (read_count result) }
@@ -56,7 +56,7 @@ pub(crate) fn talk_over<I: Inputs, O: Sink>(
     inputs: &mut I,
     out: &mut O,
 ) -> Status
-    requires room { most_reply held.old.k ≤ vec_capacity text.old }
+    requires capacity { most_reply held.old.k ≤ vec_capacity text.old }
     ensures talk { TalksOver I.Inputs O.Sink inputs.old inputs.new out.old out.new held.old
         (string_bytes name) result }
     ensures input_faults { I.faults inputs.new ≡ input_count (status_kind result) (I.faults inputs.old) }

@@ -4,7 +4,7 @@ ghost use Rattle.std.specs.Prelude.{◌≡◌, ◌≢◌, ◌⊎◌, ◌<◌, �
 ghost use Rattle.std.specs.List.{list_all};
 ghost use Rattle.std.specs.String.{string_bytes};
 ghost use Rattle.namespace_id.specs.Cells.{is_in_square};
-ghost use Rattle.da_io.specs.declared.inputs.Ended.TheVariants.{Fine};
+ghost use Rattle.da_io.specs.declared.inputs.LastCall.TheVariants.{Fine};
 ghost use Rattle.da_io.specs.Faults.{count_on};
 ghost use Rattle.da_status.specs.declared.status.Status.TheVariants.{Usage, NoMemory as OutOfMemory};
 ghost use Rattle.da_status.specs.Statuses.{status_kind, input_count, output_count};
@@ -70,7 +70,7 @@ fn talk<I: Inputs, O: Sink, F: Picker>(
     out: &mut O,
 ) -> TalkEnd
     requires fresh { IsFreshWatcher F.picks watcher.old }
-    requires room { 5 + most_claim ≤ vec_capacity room.old }
+    requires capacity { 5 + most_claim ≤ vec_capacity room.old }
     requires text { most_said watcher.old.header.k ≤ vec_capacity text.old }
     requires fine { I.ended inputs.old ≡ Fine }
     ensures talk { ToldOver I.Inputs O.Sink (watching watcher.old.header watcher.old.plan) inputs.old
@@ -95,7 +95,7 @@ fn talk_over<I: Inputs, O: Sink, F: Picker>(
     out: &mut O,
 ) -> Status
     requires fresh { IsFreshWatcher F.picks watcher.old }
-    requires room { 5 + most_claim ≤ vec_capacity room.old }
+    requires capacity { 5 + most_claim ≤ vec_capacity room.old }
     requires text { most_said watcher.old.header.k ≤ vec_capacity text.old }
     ensures talk { TellsOver I.Inputs O.Sink (watching watcher.old.header watcher.old.plan) Some to.file
         (string_bytes to.name) inputs.old inputs.new out.old out.new result }

@@ -6,7 +6,7 @@ ghost use Rattle.da_files.specs.Contents.{contents_of, file_of};
 ghost use Rattle.da_files.specs.Frames.{header_in, square_in, block_or_list_in};
 ghost use Rattle.da_files.specs.Forms.{single_judged, messages_judged, requests_judged, IsJudged};
 
-use crate::contents::file;
+use crate::files::file;
 use crate::frames::{BlockOrList, Unread, block_or_list_in, header_in, square_in};
 use da_status::Status;
 use da_wire::{bad_frame, bad_value};

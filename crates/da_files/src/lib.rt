@@ -5,13 +5,13 @@
 //! `da_serving`, `da_judging` and `da_following` share.
 #![tactic(auto)]
 
-mod contents;
+mod files;
 mod forms;
 mod frames;
 mod lines;
 mod requests;
 
-pub use contents::file;
+pub use files::file;
 pub use forms::{header_and_messages, one_block, one_header, one_square, square_and_requests};
 pub use frames::{
     BlockOrList, Unread, block_or_list_in, claim_frame, claim_in, clash_frame, give, give_with,

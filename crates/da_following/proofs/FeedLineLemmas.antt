@@ -5,7 +5,7 @@ use Rattle.std.proofs.lemmas.Grind.{flat_map-append}
 use Rattle.std.proofs.lemmas.List.{length-append}
 use Rattle.std.proofs.lemmas.List.Elements.{filter-append}
 use Rattle.namespace_id.specs.declared.namespaces.Namespace.{Namespace}
-use Rattle.da_following.specs.declared.feed_lines.Told.{Told}
+use Rattle.da_following.specs.declared.feed_lines.FeedText.{FeedText}
 use Rattle.da_following.specs.Follow.{RunFeed, FeedPlace, place_text, read_text, places_at, places_from, feed_lines, is_place_missing, missing_count, IsToldOf, IsToldMore}
 
 -- of heights the last one comes last
@@ -21,7 +21,7 @@ places_last wanted first (suc count) =
 
 module _ (feed : RunFeed) where
   -- so much is left to tell: what was told and what is left are all
-  pub record IsLeft (all : List FeedPlace) (start : Told) (rest : List FeedPlace) (now : Told) : Type 0 where
+  pub record IsLeft (all : List FeedPlace) (start : FeedText) (rest : List FeedPlace) (now : FeedText) : Type 0 where
     pub lines : start.text.items ++ feed_lines feed all ≡ now.text.items ++ feed_lines feed rest
     pub missing : start.missing + missing_count feed all ≡ now.missing + missing_count feed rest
 
@@ -37,7 +37,7 @@ module _ (feed : RunFeed) where
       ∙ length-append (filter (is_place_missing feed) front) (filter (is_place_missing feed) back)
 
   -- the next places were told
-  pub left_less : (all places rest after : List FeedPlace) (start old new : Told) → IsLeft all start rest old
+  pub left_less : (all places rest after : List FeedPlace) (start old new : FeedText) → IsLeft all start rest old
       → rest ≡ places ++ after → IsToldMore feed places old new → IsLeft all start after new
   left_less all places rest after start old new left next more = record {
     lines = left.lines ∙ ap (λ (l : List FeedPlace). old.text.items ++ feed_lines feed l) next
@@ -49,11 +49,11 @@ module _ (feed : RunFeed) where
   }
 
   -- nothing was told
-  pub none_told : (wanted : List Namespace) (told : Told) → told.text.items ≡ [] → told.missing ≡ 0 → IsToldOf feed (places_from wanted 0 0) told
+  pub none_told : (wanted : List Namespace) (told : FeedText) → told.text.items ≡ [] → told.missing ≡ 0 → IsToldOf feed (places_from wanted 0 0) told
   none_told wanted told empty none = record { lines = empty; missing = none }
 
   -- one height more was told
-  pub told_more : (wanted : List Namespace) (count : ℕ) (old new : Told) → IsToldOf feed (places_from wanted 0 count) old
+  pub told_more : (wanted : List Namespace) (count : ℕ) (old new : FeedText) → IsToldOf feed (places_from wanted 0 count) old
       → IsToldMore feed (places_at wanted count) old new → IsToldOf feed (places_from wanted 0 (count + 1)) new
   told_more wanted count old new told more =
       let last : places_from wanted 0 (count + 1) ≡ places_from wanted 0 count ++ places_at wanted count =

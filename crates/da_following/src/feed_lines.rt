@@ -19,7 +19,7 @@ use std::alloc::Global;
 
 /// Lines, and how many of them say that there is nothing.
 #[derive(Drop)]
-pub struct Told {
+pub struct FeedText {
     pub(crate) text: Vec<u8>,
     pub(crate) missing: u64,
 }

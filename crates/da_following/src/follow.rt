@@ -21,7 +21,7 @@ ghost use Rattle.da_following.specs.Follow.{is_followed, each_once, item_of, ite
 ghost use Rattle.da_following.specs.Heights.{fed_by, IsOnWay, begun};
 ghost use Rattle.da_status.specs.Judging.{Judged};
 
-use crate::feed_lines::Told;
+use crate::feed_lines::FeedText;
 use crate::heights::Way;
 use blob_feed::{Filter, feed_laws};
 use da_files::{file, next_name, put};
@@ -212,7 +212,7 @@ pub fn follow_laws()
 }
 
 /// The lines of what comes of answers for the namespaces that are asked for, which are ones of blobs.
-fn told(alloc: Global, wanted: &[u8], answers: &[u8]) -> Result<Told, NoMemory>
+fn told(alloc: Global, wanted: &[u8], answers: &[u8]) -> Result<FeedText, NoMemory>
     requires { failing_from is_followed 0 (namespaces_in wanted.now) ≡ None }
     ensures { IfOk result (λ told. (feed : RunFeed)
         × IsFeedOf (Contains (namespaces_in wanted.now)) (items_in answers.now) feed

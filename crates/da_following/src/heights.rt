@@ -8,7 +8,7 @@ ghost use Rattle.blob_feed.specs.Feeds.{Item, Height, headed, answered, answers_
 ghost use Rattle.da_following.specs.Follow.{RunFeed, places_at, IsToldOf, IsToldMore};
 ghost use Rattle.da_following.specs.Heights.{said, first_said, said_at, AreSaid, IsOnWay, begun};
 
-use crate::feed_lines::{Told, append, place_text, text_of};
+use crate::feed_lines::{FeedText, append, place_text, text_of};
 use axis_roots::NsAnswer;
 use data_header::Header;
 use namespace_id::{Namespace, NoMemory};
@@ -26,7 +26,7 @@ pub struct UnderWay {
 /// The lines of the heights that are behind, how many these are, and the height under way.
 #[derive(Drop)]
 pub struct Way {
-    pub(crate) told: Told,
+    pub(crate) told: FeedText,
     number: u64,
     height: Option<UnderWay>,
 }
@@ -58,7 +58,7 @@ fn put_place(
     height: &UnderWay,
     number: u64,
     name: &Namespace,
-    told: &mut Told,
+    told: &mut FeedText,
 ) -> Result<(), NoMemory>
     requires { told.old.missing ≤ length told.old.text.items }
     ensures more { OnOk result ((feed : RunFeed) →
@@ -82,7 +82,7 @@ fn put_height(
     height: &UnderWay,
     number: u64,
     names: &[Namespace],
-    told: &mut Told,
+    told: &mut FeedText,
 ) -> Result<(), NoMemory>
     requires { told.old.missing ≤ length told.old.text.items }
     ensures more { OnOk result ((feed : RunFeed) → AreSaid feed number height.now names.now →
@@ -106,7 +106,7 @@ impl Way {
         ensures fits { result.told.missing ≤ length result.told.text.items }
     {
         Way {
-            told: Told {
+            told: FeedText {
                 text: Vec::new(alloc),
                 missing: 0,
             },

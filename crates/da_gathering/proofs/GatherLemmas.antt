@@ -6,7 +6,7 @@ use Rattle.namespace_id.specs.Cells.{CellList, is_width}
 use Rattle.data_header.specs.Headers.{Roots}
 use Rattle.axis_roots.specs.declared.message.messages.Message.{Message}
 use Rattle.axis_roots.specs.declared.message.messages.CheckRefusal.TheVariants.{OutOfSquare, NodeCount, Unordered, OtherRoot}
-use Rattle.repair_queue.specs.declared.fed.SessionState.TheVariants as state
+use Rattle.repair_queue.specs.declared.sessions.SessionState.TheVariants as state
 use Rattle.repair_queue.specs.Settled.{IsSettled}
 use Rattle.repair_queue.specs.SessionParts.{SessionParts, SessionStands}
 use Rattle.repair_queue.specs.Sessions.{session_state}

@@ -13,7 +13,7 @@ use Rattle.namespace_id.proofs.RowMajorLemmas.{cells_parts, cells_from}
 use Rattle.data_header.specs.Headers.{Roots}
 use Rattle.axis_roots.specs.declared.message.messages.Message.{Message}
 use Rattle.axis_roots.specs.Openings.{IsProved}
-use Rattle.repair_queue.specs.declared.fed.SessionState.TheVariants as state
+use Rattle.repair_queue.specs.declared.sessions.SessionState.TheVariants as state
 use Rattle.repair_queue.specs.Closures.{Half, Covers}
 use Rattle.repair_queue.specs.Settled.{IsSettled}
 use Rattle.repair_queue.specs.SessionParts.{SessionParts, is_known, SessionStands}

@@ -7,7 +7,7 @@ use Rattle.data_header.specs.Headers.{Roots}
 use Rattle.axis_roots.specs.declared.message.messages.Message.{Message}
 use Rattle.repair_queue.specs.SessionParts.{SessionParts, is_known, SessionStands}
 use Rattle.repair_queue.specs.Sessions.{session_state}
-use Rattle.repair_queue.specs.declared.fed.SessionState.TheVariants as state
+use Rattle.repair_queue.specs.declared.sessions.SessionState.TheVariants as state
 use Rattle.frame_payloads.specs.kinds.Message.{most_message}
 use Rattle.da_status.specs.declared.status.Status.{Status}
 

@@ -1,7 +1,7 @@
 //! The talk of a repair.
 
 ghost use Rattle.std.specs.Prelude.{◌≡◌, ◌≤◌, ◌+◌, vec_capacity};
-ghost use Rattle.da_io.specs.declared.inputs.Ended.TheVariants as call;
+ghost use Rattle.da_io.specs.declared.inputs.LastCall.TheVariants as call;
 ghost use Rattle.da_io.specs.Faults.{count_on};
 ghost use Rattle.frame_payloads.specs.kinds.Message.{most_message};
 ghost use Rattle.da_talk.specs.Told.{last_heard, hear_count, say_count};
@@ -27,7 +27,7 @@ pub fn gather<'a, L: Line>(
     line: &mut L,
 ) -> TalkEnd
     requires fresh { IsFreshGathering gatherer.old }
-    requires room { 5 + most_message ≤ vec_capacity room.old }
+    requires capacity { 5 + most_message ≤ vec_capacity room.old }
     requires text { most_gathered gatherer.old.header.k ≤ vec_capacity text.old }
     ensures talk { GathersTalk L.Line line.old line.new gatherer.old.header gatherer.new.status result }
 

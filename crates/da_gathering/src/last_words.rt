@@ -37,7 +37,7 @@ pub fn most_gathered(k: u16) -> usize
 /// Writes a square into an empty text.
 fn put_whole(text: &mut Vec<u8>, square: &Square, lies: u64) -> Status
     requires empty { text.old.items ≡ [] }
-    requires room { most_gathered square.now.k ≤ vec_capacity text.old }
+    requires capacity { most_gathered square.now.k ≤ vec_capacity text.old }
     ensures { GivesVerdict lies (whole square.now) text.new.items result }
 {
     shares_law(&square.shares);
@@ -51,7 +51,7 @@ fn put_whole(text: &mut Vec<u8>, square: &Square, lies: u64) -> Status
 fn put_missing(text: &mut Vec<u8>, cells: &Cells, lies: u64) -> Status
     requires empty { text.old.items ≡ [] }
     requires some { 0 < length cells.now.list }
-    requires room { most_gathered cells.now.k ≤ vec_capacity text.old }
+    requires capacity { most_gathered cells.now.k ≤ vec_capacity text.old }
     ensures { GivesVerdict lies (missing cells.now) text.new.items result }
 {
     value_laws();
@@ -63,7 +63,7 @@ fn put_missing(text: &mut Vec<u8>, cells: &Cells, lies: u64) -> Status
 /// Writes the claim of a fraud proof into an empty text.
 fn put_fraud(text: &mut Vec<u8>, proof: &FraudProof, lies: u64) -> Status
     requires empty { text.old.items ≡ [] }
-    requires room { most_gathered (length proof.now.claim.cells) ≤ vec_capacity text.old }
+    requires capacity { most_gathered (length proof.now.claim.cells) ≤ vec_capacity text.old }
     ensures { GivesVerdict lies (fraud proof.now.claim) text.new.items result }
 {
     proof_law(proof);
@@ -76,7 +76,7 @@ fn put_fraud(text: &mut Vec<u8>, proof: &FraudProof, lies: u64) -> Status
 fn put_pair(text: &mut Vec<u8>, pair: &Clash, lies: u64) -> Status
     requires empty { text.old.items ≡ [] }
     requires full { has_empty pair.now ≡ false }
-    requires room { most_gathered 1 ≤ vec_capacity text.old }
+    requires capacity { most_gathered 1 ≤ vec_capacity text.old }
     ensures { GivesVerdict lies (clash pair.now.left pair.now.right) text.new.items result }
 {
     value_laws();
@@ -96,7 +96,7 @@ pub(crate) fn put_verdict(
 ) -> Status
     requires empty { text.old.items ≡ [] }
     requires verdict { (ms : List sent.Message) × IsVerdict header.now ms (verdict_parts verdict) }
-    requires room { most_gathered header.now.k ≤ vec_capacity text.old }
+    requires capacity { most_gathered header.now.k ≤ vec_capacity text.old }
     ensures { GivesVerdict lies (verdict_parts verdict) text.new.items result }
 {
     let _k = header.k;

@@ -1,7 +1,7 @@
 -- Counts that stop at an end, and how a call ended.
 use Rattle.std.specs.Prelude.{◌≡◌, ℕ, ◌+◌, min, Ok, Err, Result}
-use Rattle.da_io.specs.declared.inputs.Ended.{Ended}
-use Rattle.da_io.specs.declared.inputs.Ended.TheVariants.{Fine, PickFailed, ReadFailed}
+use Rattle.da_io.specs.declared.inputs.LastCall.{LastCall}
+use Rattle.da_io.specs.declared.inputs.LastCall.TheVariants.{Fine, PickFailed, ReadFailed}
 
 -- the greatest count, 2 ^ 64 - 1: counts stop there
 abbrev pub max_count : ℕ
@@ -22,11 +22,11 @@ GivesCounted before now (Ok n) = now ≡ count_on before n
 GivesCounted before now (Err _) = now ≡ before
 
 -- how a pick ended
-abbrev pub pick_end : {T E : Type 0} → Result T E → Ended
+abbrev pub pick_end : {T E : Type 0} → Result T E → LastCall
 pick_end (Ok _) = Fine
 pick_end (Err _) = PickFailed
 
 -- how a read ended
-abbrev pub read_end : {T E : Type 0} → Result T E → Ended
+abbrev pub read_end : {T E : Type 0} → Result T E → LastCall
 read_end (Ok _) = Fine
 read_end (Err _) = ReadFailed

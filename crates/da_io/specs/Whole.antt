@@ -3,8 +3,8 @@ use Rattle.std.specs.Prelude.{◌≡◌, ℕ, ◌≤◌, ◌<◌, List, length, 
 use Rattle.std.specs.declared.option.Option.{Option}
 use Rattle.std.specs.declared.alloc.Global.{Global}
 use Rattle.std.specs.Io.KnownBytes.{Consumes}
-use Rattle.da_io.specs.declared.inputs.Ended.{Ended}
-use Rattle.da_io.specs.declared.inputs.Ended.TheVariants as ended
+use Rattle.da_io.specs.declared.inputs.LastCall.{LastCall}
+use Rattle.da_io.specs.declared.inputs.LastCall.TheVariants as ended
 use Rattle.da_io.specs.declared.whole.InputFault.{InputFault}
 use Rattle.da_io.specs.declared.whole.InputFault.TheVariants.{ReadFailed, TooLong, NoMemory}
 use Rattle.da_io.specs.Faults.{count_on}
@@ -17,7 +17,7 @@ read_faults (Err (TooLong _)) = 0
 read_faults (Err NoMemory) = 0
 
 -- how the last read ended
-abbrev pub last_end : Result (Vec ℕ Global) InputFault → Ended
+abbrev pub last_end : Result (Vec ℕ Global) InputFault → LastCall
 last_end (Ok _) = ended.Fine
 last_end (Err ReadFailed) = ended.ReadFailed
 last_end (Err (TooLong _)) = ended.Fine

@@ -6,7 +6,7 @@ ghost use Rattle.std.specs.Io.KnownBytes.{ReadConsumes};
 ghost use Rattle.da_io.specs.Faults.{max_count};
 ghost use Rattle.da_io.specs.Files.{is_standard_input};
 
-use crate::{Blocking, Ended, Inputs, PickFailed, ReadFailed};
+use crate::{Blocking, Inputs, LastCall, PickFailed, ReadFailed};
 use std::fs::File;
 use std::io::{Read, Stdin};
 use std::os::fd::AsFd;
@@ -29,7 +29,7 @@ pub struct FileInputs<'a> {
     rt: &'a HostRuntime,
     file: Option<Source<'a>>,
     picked: Option<String>,
-    ended: Ended,
+    ended: LastCall,
     given: u64,
     faults: u64,
     picks: u64,
@@ -40,7 +40,7 @@ pub struct FileInputs<'a> {
 
 impl<'a> FileInputs<'a> {
     ghost use Rattle.std.specs.Prelude.{◌≡◌, None};
-    ghost use Rattle.da_io.specs.declared.inputs.Ended.TheVariants.{Fine};
+    ghost use Rattle.da_io.specs.declared.inputs.LastCall.TheVariants.{Fine};
     ghost use Rattle.da_io.specs.Faults.{CountsFault, GivesCounted, read_end};
 
     /// The files of the system, none of them picked.
@@ -55,7 +55,7 @@ impl<'a> FileInputs<'a> {
             rt,
             file: None,
             picked: None,
-            ended: Ended::Fine,
+            ended: LastCall::Fine,
             given: 0,
             faults: 0,
             picks: 0,
@@ -74,10 +74,10 @@ impl<'a> FileInputs<'a> {
         match answer {
             Ok(count) => {
                 self.given = self.given.saturating_add(count as u64);
-                self.ended = Ended::Fine;
+                self.ended = LastCall::Fine;
             }
             Err(_) => {
-                self.ended = Ended::ReadFailed;
+                self.ended = LastCall::ReadFailed;
                 self.faults = self.faults.saturating_add(1);
             }
         }
@@ -175,11 +175,11 @@ impl Inputs for FileInputs<'_> {
         match opened {
             Ok(source) => {
                 self.file = Some(source);
-                self.ended = Ended::Fine;
+                self.ended = LastCall::Fine;
                 Ok(())
             }
             Err(_) => {
-                self.ended = Ended::PickFailed;
+                self.ended = LastCall::PickFailed;
                 self.faults = self.faults.saturating_add(1);
                 Err(PickFailed)
             }

@@ -5,7 +5,7 @@ ghost use Rattle.std.specs.declared.option.Option.{Option};
 ghost use Rattle.std.specs.String.{string_bytes};
 ghost use Rattle.std.specs.Io.{ReadsAtMost};
 ghost use Rattle.std.specs.Io.KnownBytes.{ReadConsumes};
-ghost use Rattle.da_io.specs.declared.inputs.Ended.{Ended};
+ghost use Rattle.da_io.specs.declared.inputs.LastCall.{LastCall};
 ghost use Rattle.da_io.specs.Faults.{max_count, count_on, CountsFault, GivesCounted, pick_end, read_end};
 ghost use Rattle.da_io.specs.Files.{Files, Picks};
 
@@ -23,7 +23,7 @@ pub struct ReadFailed;
 
 /// How the last call on inputs ended.
 #[derive(Clone, Copy, Debug, PartialEq, Eq)]
-pub enum Ended {
+pub enum LastCall {
     /// It did not fail, or there was no call yet.
     Fine,
     /// A pick failed.
@@ -47,7 +47,7 @@ pub trait Inputs {
     ghost picked: { Self → Option (List ℕ) };
 
     /// How the last call ended.
-    ghost ended: { Self → Ended };
+    ghost ended: { Self → LastCall };
 
     /// How many calls have failed. The count stops at 2^64 - 1.
     ghost faults: { Self → ℕ };

@@ -17,7 +17,7 @@ mod whole;
 
 pub use blocking::Blocking;
 pub use file_inputs::{FileInputs, is_standard_input};
-pub use inputs::{Ended, Inputs, PickFailed, ReadFailed};
+pub use inputs::{Inputs, LastCall, PickFailed, ReadFailed};
 pub use line_room::LineRoom;
 pub use mem_inputs::MemInputs;
 pub use mem_sink::MemSink;

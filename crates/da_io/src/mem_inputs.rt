@@ -1,11 +1,11 @@
 //! Files in memory, which tell their bytes and fail where they are told to.
 
 ghost use Rattle.std.specs.Prelude.{◌≡◌, ◌<◌, ◌≤◌, ◌+◌, ◌^◌, ◌++◌, min, length, take, drop, vec_len};
-ghost use Rattle.da_io.specs.declared.inputs.Ended.TheVariants.{Fine};
+ghost use Rattle.da_io.specs.declared.inputs.LastCall.TheVariants.{Fine};
 ghost use Rattle.da_io.specs.Faults.{max_count};
 ghost use Rattle.da_io.specs.Files.{file_at, rest_in, place_of};
 
-use crate::{Ended, Inputs, PickFailed, ReadFailed};
+use crate::{Inputs, LastCall, PickFailed, ReadFailed};
 
 /// Files in memory. A name means the first file that has it.
 ///
@@ -24,7 +24,7 @@ pub struct MemInputs {
     place: usize,
     calls: u64,
     picked: Option<String>,
-    ended: Ended,
+    ended: LastCall,
     given: u64,
     faults: u64,
     picks: u64,
@@ -77,7 +77,7 @@ impl MemInputs {
             place: 0,
             calls: 0,
             picked: None,
-            ended: Ended::Fine,
+            ended: LastCall::Fine,
             given: 0,
             faults: 0,
             picks: 0,
@@ -183,7 +183,7 @@ impl Inputs for MemInputs {
         self.place = 0;
         self.given = 0;
         self.picks = self.picks.saturating_add(1);
-        self.ended = Ended::PickFailed;
+        self.ended = LastCall::PickFailed;
         if fails {
             self.faults = self.faults.saturating_add(1);
             return Err(PickFailed);
@@ -193,7 +193,7 @@ impl Inputs for MemInputs {
             return Err(PickFailed);
         };
         self.file = Some(file);
-        self.ended = Ended::Fine;
+        self.ended = LastCall::Fine;
         Ok(())
     }
 
@@ -230,11 +230,11 @@ impl Inputs for MemInputs {
         let fails = self.fail.contains(&self.calls);
         self.calls = self.calls.saturating_add(1);
         if fails {
-            self.ended = Ended::ReadFailed;
+            self.ended = LastCall::ReadFailed;
             self.faults = self.faults.saturating_add(1);
             return Err(ReadFailed);
         }
-        self.ended = Ended::Fine;
+        self.ended = LastCall::Fine;
         let rest = rest_in(&self.contents, self.file, self.place);
         let count = copy_some(rest, self.piece, buf);
         self.place += count;

@@ -4,7 +4,7 @@
 ghost use Rattle.std.specs.Prelude.{◌≡◌, [], IfSome, IsTrue, Some};
 ghost use Rattle.namespace_id.specs.Cells.{is_width, is_in_square};
 ghost use Rattle.nmt_tree.specs.Queues.{queued};
-ghost use Rattle.axis_roots.specs.declared.message.messages.Message.{Message as Sample};
+ghost use Rattle.axis_roots.specs.declared.message.messages.Message.{Message as Sent};
 ghost use Rattle.da_wire.specs.Reading.{raw_seen};
 ghost use Rattle.da_wire.specs.Frames.{frames_of, raw_message};
 ghost use Rattle.da_judging.specs.Ahead.{AreAhead, IsNextAhead};
@@ -24,7 +24,7 @@ const FEWEST: u8 = 5;
 fn shown(k: u16, frame: RawFrame<'_>) -> Option<(Cell, Share)>
     requires width { IsTrue (is_width k) }
     ensures inside { IfSome result (λ x. IsTrue (is_in_square k x.0)) }
-    ensures sample { (m : Sample) → raw_message (raw_seen frame.entry) ≡ Some m →
+    ensures sample { (m : Sent) → raw_message (raw_seen frame.entry) ≡ Some m →
         IfSome result (λ x. (x.0 ≡ m.cell) × (x.1 ≡ m.share)) }
 {
     if frame.kind != b'M' {

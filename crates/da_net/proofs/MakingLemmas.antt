@@ -6,7 +6,7 @@ use Rattle.std.specs.List.{AllZip, Contains}
 use Rattle.namespace_id.proofs.MemberLemmas.{contains_none, contains_cons}
 use Rattle.data_header.specs.Headers.{Roots}
 use Rattle.axis_roots.specs.Claims.{ClaimParts}
-use Rattle.repair_queue.specs.declared.fed.SessionState.TheVariants as state
+use Rattle.repair_queue.specs.declared.sessions.SessionState.TheVariants as state
 use Rattle.repair_queue.specs.SessionParts.{SessionParts, SessionStands}
 use Rattle.repair_queue.specs.Sessions.{session_state}
 use Rattle.light_node.specs.declared.events.Event.{Event}

@@ -1,14 +1,14 @@
 -- What full nodes and light nodes keep, and for which items they stand.
 use Rattle.std.specs.Prelude.{◌≡◌, ℕ, List, [], Option, Some, None}
 use Rattle.namespace_id.specs.declared.cells.Cell.{Cell}
-use Rattle.namespace_id.specs.Answers.{HasRoom}
+use Rattle.namespace_id.specs.Answers.{HasCapacity}
 use Rattle.data_header.specs.Headers.{Roots}
 use Rattle.axis_roots.specs.declared.message.messages.Message.{Message}
 use Rattle.axis_roots.specs.Claims.{ClaimParts}
 use Rattle.repair_queue.specs.Verdicts.{VerdictParts, whole, missing, fraud, clash, IsFraud, IsFoundClash}
 use Rattle.repair_queue.specs.SessionParts.{SessionParts, SessionStands}
 use Rattle.repair_queue.specs.Sessions.{session_state}
-use Rattle.repair_queue.specs.declared.fed.SessionState.TheVariants as state
+use Rattle.repair_queue.specs.declared.sessions.SessionState.TheVariants as state
 use Rattle.light_node.specs.Nodes.{NodeParts, NodeStands}
 use Rattle.da_net.specs.declared.items.Item.{Item}
 use Rattle.da_net.specs.declared.full.End.{End}
@@ -22,9 +22,9 @@ use Rattle.da_net.specs.Networks.{messages_of, item_events, full, Standing, sett
 -- a room for a claim of so many samples, and as many nodes of a set, with none in it
 pub record IsSpareClaim (count : ℕ) (room : ClaimRoom) : Type 0 where
   pub no_cells : room.cells.items ≡ []
-  pub cell_room : HasRoom room.cells count
+  pub cell_capacity : HasCapacity room.cells count
   pub no_nodes : room.nodes.items ≡ []
-  pub node_room : HasRoom room.nodes count
+  pub node_capacity : HasCapacity room.nodes count
 
 -- such a room is there
 abbrev pub HasSpareClaim : ℕ → Option ClaimRoom → Type 0

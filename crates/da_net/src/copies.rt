@@ -1,7 +1,7 @@
 //! Copies of samples and claims, into rooms that were taken before.
 
 ghost use Rattle.std.specs.Prelude.{◌≡◌, ◌≤◌, [], length, IfSome};
-ghost use Rattle.namespace_id.specs.Answers.{HasRoom};
+ghost use Rattle.namespace_id.specs.Answers.{HasCapacity};
 ghost use Rattle.da_net.specs.Nodes.{IsSpareClaim};
 
 use axis_roots::{FraudClaim, FraudProof, Message, SetNodes};
@@ -42,7 +42,7 @@ pub(crate) fn copy_message(message: &Message) -> Message
 /// A copy of digests.
 fn copy_nodes(nodes: &[Digest], room: Vec<Digest>) -> Vec<Digest>
     requires empty { room.items ≡ [] }
-    requires room { HasRoom room (length nodes.now) }
+    requires capacity { HasCapacity room (length nodes.now) }
     ensures { result.items ≡ nodes.now }
 {
     let mut copy = room;
@@ -55,7 +55,7 @@ fn copy_nodes(nodes: &[Digest], room: Vec<Digest>) -> Vec<Digest>
 /// A copy of a set, if there is one.
 fn copy_set(set: &Option<SetNodes>, room: Vec<Digest>) -> Option<SetNodes>
     requires empty { room.items ≡ [] }
-    requires room { IfSome set.now (λ nodes. HasRoom room (length nodes)) }
+    requires capacity { IfSome set.now (λ nodes. HasCapacity room (length nodes)) }
     ensures { result ≡ set.now }
 {
     let Some(set) = set else {

@@ -1,7 +1,7 @@
 -- The steps of a talk: how far it has come between two events.
 use Rattle.std.specs.Prelude.{◌≡◌, ◌⊎◌, ℕ, List, [], ◌∷◌, ◌++◌, length, take, Ok, Err, Result, ⊤}
 use Rattle.std.specs.declared.option.Option.{Option}
-use Rattle.da_io.specs.declared.inputs.Ended.TheVariants as call
+use Rattle.da_io.specs.declared.inputs.LastCall.TheVariants as call
 use Rattle.da_io.specs.Sinks.{IsProperPrefix}
 use Rattle.da_wire.specs.Reading.{Raw}
 use Rattle.da_wire.specs.Frames.{frames_of, frames_bytes}

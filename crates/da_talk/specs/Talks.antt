@@ -2,8 +2,8 @@
 use Rattle.std.specs.Prelude.{◌≡◌, ◌⊎◌, ℕ, ◌<◌, List, ◌∷◌, ◌++◌, length, Some, None}
 use Rattle.std.specs.declared.option.Option.{Option}
 use Rattle.std.specs.Io.KnownBytes.{Appends, Consumes, IsAtEnd}
-use Rattle.da_io.specs.declared.inputs.Ended as calls
-use Rattle.da_io.specs.declared.inputs.Ended.TheVariants as call
+use Rattle.da_io.specs.declared.inputs.LastCall as calls
+use Rattle.da_io.specs.declared.inputs.LastCall.TheVariants as call
 use Rattle.da_io.specs.Faults.{max_count, count_on}
 use Rattle.da_io.specs.Sinks.{IsProperPrefix}
 use Rattle.da_wire.specs.declared.frames.FrameError.TheVariants as frame
@@ -76,7 +76,7 @@ pub record HasTalked {L : Type 0} (l : line.Ghosts L) (old new : L) (due : List 
 -- ---- failures
 
 -- how the last wait for bytes ended
-abbrev pub last_wait : Ended → calls.Ended
+abbrev pub last_wait : Ended → calls.LastCall
 last_wait Done = call.Fine
 last_wait (Bad at) = call.Fine
 last_wait ReadFailed = call.ReadFailed

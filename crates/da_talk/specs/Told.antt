@@ -3,8 +3,8 @@ use Rattle.std.specs.Prelude.{◌≡◌, ◌<◌, ℕ, List, [], ◌∷◌, ◌+
 use Rattle.std.specs.declared.option.Option.{Option}
 use Rattle.std.specs.Io.KnownBytes.{IsAtEnd}
 use Rattle.da_io.specs.Faults.{max_count}
-use Rattle.da_io.specs.declared.inputs.Ended as calls
-use Rattle.da_io.specs.declared.inputs.Ended.TheVariants as call
+use Rattle.da_io.specs.declared.inputs.LastCall as calls
+use Rattle.da_io.specs.declared.inputs.LastCall.TheVariants as call
 use Rattle.da_io.specs.Sinks.{IsProperPrefix}
 use Rattle.da_wire.specs.Reading.{Raw}
 use Rattle.da_wire.specs.Frames.{frames_of, bad_frame, frames_bytes}
@@ -115,7 +115,7 @@ pub record HasTold {L T : Type 0} (l : line.Ghosts L) (t : talker.Ghosts T) (old
 -- ---- failures
 
 -- how the last wait for bytes ended
-abbrev pub last_heard : TalkEnd → calls.Ended
+abbrev pub last_heard : TalkEnd → calls.LastCall
 last_heard ReadFailed = call.ReadFailed
 last_heard other = call.Fine
 

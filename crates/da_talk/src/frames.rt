@@ -3,7 +3,7 @@
 ghost use Rattle.std.specs.Prelude.{◌≡◌, ◌≤◌, ◌<◌, ◌+◌, ◌++◌, ◌∷◌, length, vec_len, vec_capacity, true};
 ghost use Rattle.std.specs.Int.{w32, to_be_bytes};
 ghost use Rattle.std.specs.List.{flat_map};
-ghost use Rattle.namespace_id.specs.Answers.{HasRoom};
+ghost use Rattle.namespace_id.specs.Answers.{HasCapacity};
 ghost use Rattle.namespace_id.specs.Cells.{are_cells};
 ghost use Rattle.frame_payloads.specs.codec.Texts.{cell_bytes};
 ghost use Rattle.da_wire.specs.declared.frames.Frame.TheVariants as FrameOf;
@@ -36,7 +36,7 @@ pub fn most_missing(k: u16) -> usize
 ///
 /// docs/FORMATS.md, "Frames".
 pub fn put_head(text: &mut Vec<u8>, kind: u8, size: u32)
-    requires room { HasRoom text.old 5 }
+    requires capacity { HasCapacity text.old 5 }
     ensures appended { text.new.items ≡ text.old.items ++ (kind ∷ to_be_bytes w32 size) }
     ensures len { vec_len text.new ≡ vec_len text.old + 5 }
     ensures capacity { vec_capacity text.old ≤ vec_capacity text.new }
@@ -49,7 +49,7 @@ pub fn put_head(text: &mut Vec<u8>, kind: u8, size: u32)
 ///
 /// docs/FORMATS.md, "Payloads".
 pub fn put_refusal_frame(text: &mut Vec<u8>, reason: Reason, number: u64)
-    requires room { HasRoom text.old refusal_size }
+    requires capacity { HasCapacity text.old refusal_size }
     ensures appended { text.new.items ≡ text.old.items ++ refusal reason number }
     ensures capacity { vec_capacity text.old ≤ vec_capacity text.new }
 {
@@ -61,7 +61,7 @@ pub fn put_refusal_frame(text: &mut Vec<u8>, reason: Reason, number: u64)
 ///
 /// docs/FORMATS.md, "Payloads".
 pub fn put_state_frame(text: &mut Vec<u8>)
-    requires room { HasRoom text.old 5 }
+    requires capacity { HasCapacity text.old 5 }
     ensures appended { AppendsSpelling FrameOf.State text.old.items text.new.items }
     ensures capacity { vec_capacity text.old ≤ vec_capacity text.new }
 {
@@ -70,7 +70,7 @@ pub fn put_state_frame(text: &mut Vec<u8>)
 
 /// Appends a cell, its row first.
 fn put_cell(text: &mut Vec<u8>, cell: Cell)
-    requires room { HasRoom text.old (length (cell_bytes cell)) }
+    requires capacity { HasCapacity text.old (length (cell_bytes cell)) }
     ensures appended { text.new.items ≡ text.old.items ++ cell_bytes cell }
     ensures len { vec_len text.new ≡ vec_len text.old + length (cell_bytes cell) }
     ensures capacity { vec_capacity text.old ≤ vec_capacity text.new }
@@ -81,7 +81,7 @@ fn put_cell(text: &mut Vec<u8>, cell: Cell)
 
 /// Appends cells, one after another.
 fn put_cells(text: &mut Vec<u8>, cells: &[Cell])
-    requires room { HasRoom text.old (length (flat_map cell_bytes cells.now)) }
+    requires capacity { HasCapacity text.old (length (flat_map cell_bytes cells.now)) }
     ensures appended { text.new.items ≡ text.old.items ++ flat_map cell_bytes cells.now }
     ensures capacity { vec_capacity text.old ≤ vec_capacity text.new }
 {
@@ -96,7 +96,7 @@ fn put_cells(text: &mut Vec<u8>, cells: &[Cell])
 pub fn put_missing_frame(text: &mut Vec<u8>, k: u16, cells: &[Cell])
     requires cells { are_cells k cells.now ≡ true }
     requires some { 0 < length cells.now }
-    requires room { HasRoom text.old (most_missing k) }
+    requires capacity { HasCapacity text.old (most_missing k) }
     ensures appended { AppendsSpelling (FrameOf.Missing (record { k = k; list = cells.now })) text.old.items text.new.items }
     ensures capacity { vec_capacity text.old ≤ vec_capacity text.new }
 {

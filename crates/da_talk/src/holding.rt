@@ -119,7 +119,7 @@ fn ended(end: TalkEnd) -> Ended
 ///
 /// docs/FORMATS.md, "Talks".
 pub fn hold<L: Line>(held: &mut Held, text: &mut Vec<u8>, line: &mut L) -> Ended
-    requires room { most_reply held.old.k ≤ vec_capacity text.old }
+    requires capacity { most_reply held.old.k ≤ vec_capacity text.old }
     ensures kept { held.new ≡ held.old }
     ensures talk { HasTalked L.Line line.old line.new (due (held_reply held.old)) result }
 

@@ -3,7 +3,7 @@
 ghost use Rattle.std.specs.Prelude.{◌≡◌, ◌≤◌, ℕ, List};
 ghost use Rattle.std.specs.declared.option.Option.{Option};
 ghost use Rattle.std.specs.Io.{ReadsAtMost};
-ghost use Rattle.da_io.specs.declared.inputs.Ended.{Ended};
+ghost use Rattle.da_io.specs.declared.inputs.LastCall.{LastCall};
 ghost use Rattle.da_io.specs.Faults.{max_count, CountsFault, GivesCounted, read_end};
 ghost use Rattle.da_talk.specs.Events.{Event, Hears, TakesBytes, GivesBytes};
 
@@ -24,7 +24,7 @@ pub trait Line {
     ghost given: { Self → ℕ };
 
     /// How the last call of `hear` ended.
-    ghost ended: { Self → Ended };
+    ghost ended: { Self → LastCall };
 
     /// How many calls of `hear` have failed. The count stops at 2^64 - 1.
     ghost read_faults: { Self → ℕ };

@@ -3,7 +3,7 @@
 ghost use Rattle.std.specs.Prelude.{◌≡◌, ◌≤◌, ◌<◌, ◌+◌, ◌-◌, ◌*◌, ◌^◌, ◌++◌, [], length, take, drop, vec_len, vec_capacity, true, false};
 ghost use Rattle.std.specs.Int.{w32, to_be_bytes};
 ghost use Rattle.std.specs.List.{flat_map};
-ghost use Rattle.namespace_id.specs.Answers.{HasRoom};
+ghost use Rattle.namespace_id.specs.Answers.{HasCapacity};
 ghost use Rattle.namespace_id.specs.Cells.{is_width};
 ghost use Rattle.namespace_id.specs.Names.{is_parity};
 ghost use Rattle.square_serve.specs.Serving.{row_entry, answer_for};
@@ -24,7 +24,7 @@ fn put_entry(text: &mut Vec<u8>, held: &mut Held, row: u16, name: &Namespace)
     requires width { is_width held.old.k ≡ true }
     requires row { row < held.old.k }
     requires other { is_parity name.now ≡ false }
-    requires room { HasRoom text.old (most_entry held.old.k) }
+    requires capacity { HasCapacity text.old (most_entry held.old.k) }
     ensures kept { held.new ≡ held.old }
     ensures appended { text.new.items ≡ text.old.items
         ++ entry_bytes (row_entry held.old.k held.old.grid name.now row) }
@@ -57,7 +57,7 @@ fn put_row(text: &mut Vec<u8>, held: &mut Held, row: u16, name: &Namespace)
     requires width { is_width held.old.k ≡ true }
     requires row { row < held.old.k }
     requires other { is_parity name.now ≡ false }
-    requires room { HasRoom text.old (most_entry held.old.k) }
+    requires capacity { HasCapacity text.old (most_entry held.old.k) }
     ensures kept { held.new ≡ held.old }
     ensures appended { text.new.items ≡ text.old.items ++ row_reply held.old name.now row }
     ensures len { vec_len text.new ≤ vec_len text.old + most_entry held.old.k }
@@ -73,7 +73,7 @@ fn put_row(text: &mut Vec<u8>, held: &mut Held, row: u16, name: &Namespace)
 fn put_entries(text: &mut Vec<u8>, held: &mut Held, name: &Namespace)
     requires width { is_width held.old.k ≡ true }
     requires other { is_parity name.now ≡ false }
-    requires room { HasRoom text.old (most_entry held.old.k * held.old.k) }
+    requires capacity { HasCapacity text.old (most_entry held.old.k * held.old.k) }
     ensures kept { held.new ≡ held.old }
     ensures appended { text.new.items ≡ text.old.items
         ++ flat_map entry_bytes (answer_for held.old name.now) }
@@ -102,7 +102,7 @@ fn count_entries(held: &Held, name: &Namespace) -> u16
 fn put_payload(text: &mut Vec<u8>, held: &mut Held, name: &Namespace)
     requires width { is_width held.old.k ≡ true }
     requires other { is_parity name.now ≡ false }
-    requires room { HasRoom text.old (most_names held.old.k) }
+    requires capacity { HasCapacity text.old (most_names held.old.k) }
     ensures kept { held.new ≡ held.old }
     ensures appended { text.new.items ≡ text.old.items
         ++ names_payload name.now (answer_for held.old name.now) }
@@ -132,7 +132,7 @@ pub(crate) fn put_names(text: &mut Vec<u8>, held: &mut Held, name: &Namespace)
     requires empty { text.old.items ≡ [] }
     requires width { is_width held.old.k ≡ true }
     requires other { is_parity name.now ≡ false }
-    requires room { HasRoom text.old (5 + most_names held.old.k) }
+    requires capacity { HasCapacity text.old (5 + most_names held.old.k) }
     ensures kept { held.new ≡ held.old }
     ensures written { text.new.items ≡
         frame names_kind (names_payload name.now (answer_for held.old name.now)) }

@@ -1,7 +1,7 @@
 //! The reply to what is asked of a held square.
 
 ghost use Rattle.std.specs.Prelude.{◌≡◌, ◌≤◌, ◌+◌, ◌++◌, [], vec_capacity, true};
-ghost use Rattle.namespace_id.specs.Answers.{HasRoom};
+ghost use Rattle.namespace_id.specs.Answers.{HasCapacity};
 ghost use Rattle.namespace_id.specs.Cells.{is_width};
 ghost use Rattle.frame_payloads.specs.kinds.Message.{message_payload, most_message};
 ghost use Rattle.da_wire.specs.Spelling.{frame, message_kind};
@@ -28,7 +28,7 @@ pub fn most_reply(k: u16) -> usize
 
 /// Appends the frame of a sample.
 fn put_frame(text: &mut Vec<u8>, message: &Message)
-    requires room { HasRoom text.old (5 + most_message) }
+    requires capacity { HasCapacity text.old (5 + most_message) }
     ensures appended { text.new.items ≡ text.old.items
         ++ frame message_kind (message_payload message.now) }
     ensures capacity { vec_capacity text.old ≤ vec_capacity text.new }
@@ -41,7 +41,7 @@ fn put_frame(text: &mut Vec<u8>, message: &Message)
 /// Writes the reply to a request for a sample, with a number.
 fn put_sample(text: &mut Vec<u8>, held: &mut Held, number: u64, cell: Cell, axis: Axis)
     requires empty { text.old.items ≡ [] }
-    requires room { HasRoom text.old (most_reply held.old.k) }
+    requires capacity { HasCapacity text.old (most_reply held.old.k) }
     ensures kept { held.new ≡ held.old }
     ensures reply { text.new.items ≡ sample_reply held.old number cell axis }
     ensures capacity { vec_capacity text.old ≤ vec_capacity text.new }
@@ -55,7 +55,7 @@ fn put_sample(text: &mut Vec<u8>, held: &mut Held, number: u64, cell: Cell, axis
 /// Writes the reply to a request for a namespace, with a number.
 fn put_answer(text: &mut Vec<u8>, held: &mut Held, number: u64, name: Namespace)
     requires empty { text.old.items ≡ [] }
-    requires room { HasRoom text.old (most_reply held.old.k) }
+    requires capacity { HasCapacity text.old (most_reply held.old.k) }
     ensures kept { held.new ≡ held.old }
     ensures reply { text.new.items ≡ names_reply held.old number name }
     ensures capacity { vec_capacity text.old ≤ vec_capacity text.new }
@@ -71,7 +71,7 @@ fn put_answer(text: &mut Vec<u8>, held: &mut Held, number: u64, name: Namespace)
 /// Writes the reply to what the frame with a number asks for into an empty text. It takes no memory.
 pub(crate) fn put_reply(text: &mut Vec<u8>, held: &mut Held, number: u64, asked: Asked)
     requires empty { text.old.items ≡ [] }
-    requires room { HasRoom text.old (most_reply held.old.k) }
+    requires capacity { HasCapacity text.old (most_reply held.old.k) }
     ensures kept { held.new ≡ held.old }
     ensures reply { text.new.items ≡ reply held.old number asked }
     ensures capacity { vec_capacity text.old ≤ vec_capacity text.new }

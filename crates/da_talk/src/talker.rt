@@ -60,7 +60,7 @@ pub trait Talker {
     fn begin(&mut self, text: &mut Vec<u8>)
         requires fresh { is_fresh self.old }
         requires empty { text.old.items ≡ [] }
-        requires room { most self.old ≤ vec_capacity text.old }
+        requires capacity { most self.old ≤ vec_capacity text.old }
         ensures led { led self.old self.new [] }
         ensures due { begins self.old text.new.items }
         ensures over { is_over self.new ≡ false }
@@ -80,7 +80,7 @@ pub trait Talker {
         requires open { is_over self.old ≡ false }
         requires few { number + 1 < 2 ^ 64 }
         requires empty { text.old.items ≡ [] }
-        requires room { most self.old ≤ vec_capacity text.old }
+        requires capacity { most self.old ≤ vec_capacity text.old }
         ensures led { IfOk result (λ went. went ≢ turn.Unfit → (first : Self) (frames : List Raw) (raw : Raw) →
             led first self.old frames → length frames ≡ number →
             option_map (λ f. raw_seen f) frame.entry ≡ if_within (longest self.old) raw →
@@ -103,7 +103,7 @@ pub trait Talker {
     /// Writes what is due at last into an empty text.
     fn close(&mut self, text: &mut Vec<u8>)
         requires empty { text.old.items ≡ [] }
-        requires room { most self.old ≤ vec_capacity text.old }
+        requires capacity { most self.old ≤ vec_capacity text.old }
         ensures decided { (first : Self) (frames : List Raw) → led first self.old frames → is_over self.old ≡ true →
             decides first self.new frames text.new.items }
         ensures ended { (first : Self) (frames : List Raw) → led first self.old frames → is_over self.old ≡ false →

@@ -1,7 +1,7 @@
 //! A talk with whatever replies to its frames.
 
 ghost use Rattle.std.specs.Prelude.{◌≡◌, ◌≤◌, ◌<◌, ◌+◌, ◌^◌, ◌++◌, ℕ, List, [], length, drop, true, false, vec_capacity, OnOk, IfOk, IfErr};
-ghost use Rattle.da_io.specs.declared.inputs.Ended.TheVariants as call;
+ghost use Rattle.da_io.specs.declared.inputs.LastCall.TheVariants as call;
 ghost use Rattle.da_io.specs.Faults.{count_on, CountsFault};
 ghost use Rattle.std.specs.Io.KnownBytes.{IsAtEnd};
 ghost use Rattle.da_wire.specs.Reading.{Raw, raw_of};
@@ -301,7 +301,7 @@ pub fn talk<L: Line, T: Talker>(
 ) -> TalkEnd
     requires fresh { T.is_fresh talker.old }
     requires longest { longest ≡ T.longest talker.old }
-    requires room { 5 + longest ≤ vec_capacity room.old }
+    requires capacity { 5 + longest ≤ vec_capacity room.old }
     requires text { T.most talker.old ≤ vec_capacity text.old }
     ensures talk { HasTold L.Line T.Talker line.old line.new talker.old talker.new result }
 

@@ -34,7 +34,7 @@ pub(crate) fn claim_reason(why: FraudRefusal) -> Reason
 /// Writes a state where no drawn cell waits any more.
 pub(crate) fn put_news(before: LightState, now: LightState, text: &mut Vec<u8>)
     requires empty { text.old.items ≡ [] }
-    requires room { 5 ≤ vec_capacity text.old }
+    requires capacity { 5 ≤ vec_capacity text.old }
     ensures written { text.new.items ≡ said_unasked before now }
     ensures capacity { vec_capacity text.old ≤ vec_capacity text.new }
 {
@@ -53,7 +53,7 @@ pub(crate) fn put_verdict<F: Picker>(
     requires width { k ≡ node.now.header.k }
     requires cells { cells.old.k ≡ node.now.header.k }
     requires empty { text.old.items ≡ [] }
-    requires room { most_said node.now.header.k ≤ vec_capacity text.old }
+    requires capacity { most_said node.now.header.k ≤ vec_capacity text.old }
     ensures written { (plan : List Place) (events : List Happened) →
         NodeStands F.picks node.now plan events → NoneAccepted node.now.header events →
         (light : Light) × IsLight node.now.header plan events light × TellsVerdict light text.new.items
@@ -77,7 +77,7 @@ pub(crate) fn put_verdict<F: Picker>(
 /// Writes a claim that was accepted, and answers the status that goes with it.
 pub(crate) fn put_claim(upheld: &Upheld, text: &mut Vec<u8>) -> Status
     requires empty { text.old.items ≡ [] }
-    requires room { 5 + most_claim ≤ vec_capacity text.old }
+    requires capacity { 5 + most_claim ≤ vec_capacity text.old }
     ensures written { TellsVerdict (verdict.Rejected upheld.now) text.new.items }
     ensures status { result ≡ light_status (verdict.Rejected upheld.now) }
 {

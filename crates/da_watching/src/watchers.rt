@@ -178,7 +178,7 @@ impl<'a, F: Picker> Watcher<'a, F> {
     /// Takes a sample: one that isn't proved is a lie, and another is taken by the node.
     fn take_sample(&mut self, number: u64, message: &Message, text: &mut Vec<u8>)
         requires empty { text.old.items ≡ [] }
-        requires room { most_said self.old.header.k ≤ vec_capacity text.old }
+        requires capacity { most_said self.old.header.k ≤ vec_capacity text.old }
         ensures told { HasSeen F.picks self.old self.new message.now number text.new.items }
         ensures claim { self.new.claim ≡ self.old.claim }
         ensures header { self.new.header ≡ self.old.header }
@@ -199,7 +199,7 @@ impl<'a, F: Picker> Watcher<'a, F> {
     fn take_claim(&mut self, number: u64, payload: &[u8], text: &mut Vec<u8>) -> bool
         requires open { self.old.claim ≡ None }
         requires empty { text.old.items ≡ [] }
-        requires room { most_said self.old.header.k ≤ vec_capacity text.old }
+        requires capacity { most_said self.old.header.k ≤ vec_capacity text.old }
         ensures lie { result ≡ true → (reason : Why) × IsFalseAccusal self.old.header (fraud_at payload.now) reason
             × (text.new.items ≡ refusal reason number) × (self.new ≡ self.old) }
         ensures accepted { result ≡ false → (claim : ClaimParts) × (fraud_at payload.now ≡ Some claim)

@@ -1,7 +1,7 @@
 //! A talk with a watcher.
 
 ghost use Rattle.std.specs.Prelude.{◌≡◌, ◌≤◌, ◌+◌, vec_capacity};
-ghost use Rattle.da_io.specs.declared.inputs.Ended.TheVariants as call;
+ghost use Rattle.da_io.specs.declared.inputs.LastCall.TheVariants as call;
 ghost use Rattle.da_io.specs.Faults.{count_on};
 ghost use Rattle.da_talk.specs.Told.{last_heard, hear_count, say_count};
 ghost use Rattle.da_watching.specs.Sizes.{most_claim, most_said};
@@ -27,7 +27,7 @@ pub fn watch<L: Line, F: Picker>(
     line: &mut L,
 ) -> TalkEnd
     requires fresh { IsFreshWatcher F.picks watcher.old }
-    requires room { 5 + most_claim ≤ vec_capacity room.old }
+    requires capacity { 5 + most_claim ≤ vec_capacity room.old }
     requires text { most_said watcher.old.header.k ≤ vec_capacity text.old }
     ensures talk { HasWatched L.Line line.old line.new watcher.old.header watcher.old.plan
         watcher.new.status result }

@@ -1,7 +1,7 @@
 //! Writing frames: capacity for all of a spelling is made first, and then no write can fail.
 
 ghost use Rattle.std.specs.Prelude.{◌≡◌, length, None, ◌+◌, ◌++◌, ◌↔◌, OnOk, OnErr, IsErrOf, IsSome};
-ghost use Rattle.namespace_id.specs.Answers.{HasRoom};
+ghost use Rattle.namespace_id.specs.Answers.{HasCapacity};
 ghost use Rattle.da_wire.specs.Spelling.{spelling};
 ghost use Rattle.da_wire.specs.declared.frames.Frame.TheVariants as FrameOf;
 ghost use Rattle.da_wire.specs.Writing.{kind_of, payload_of, has_none, HasSize, AppendsSpelling, IsReadBack, appended};
@@ -75,7 +75,7 @@ fn payload_size(frame: &Frame) -> Option<u32>
 
 /// Appends the payload of a value.
 fn put_payload(out: &mut Vec<u8>, frame: &Frame)
-    requires room { HasRoom out.old (length (payload_of frame.now)) }
+    requires capacity { HasCapacity out.old (length (payload_of frame.now)) }
     requires few { IsShort (payload_of frame.now) }
     requires spelled { IsSome (spelling frame.now) }
     ensures appended { out.new.items ≡ out.old.items ++ payload_of frame.now }

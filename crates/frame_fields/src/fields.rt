@@ -232,7 +232,7 @@ pub fn shares_of(alloc: Global, count: usize, bytes: &[u8]) -> Result<Vec<Share>
 
 /// Adds a value, for which there is capacity.
 pub fn add<T: Drop>(list: &mut Vec<T>, value: T)
-    requires room { vec_len list.old < vec_capacity list.old }
+    requires capacity { vec_len list.old < vec_capacity list.old }
     ensures items { list.new.items ≡ list.old.items ++ value ∷ [] }
     ensures len { vec_len list.new ≡ vec_len list.old + 1 }
     ensures capacity { vec_capacity list.old ≤ vec_capacity list.new }
@@ -244,7 +244,7 @@ pub fn add<T: Drop>(list: &mut Vec<T>, value: T)
 #[tactic(auto, using(crate::proofs::SplitLoops::values_end))]
 pub fn fill_digests(list: &mut Vec<Digest>, count: usize, bytes: &[u8])
     requires all { length bytes.now ≡ 90 * count }
-    requires room { vec_len list.old + count ≤ vec_capacity list.old }
+    requires capacity { vec_len list.old + count ≤ vec_capacity list.old }
     ensures items { list.new.items ≡ list.old.items ++ digests_of count bytes.now }
     ensures len { vec_len list.new ≡ vec_len list.old + count }
     ensures capacity { vec_capacity list.old ≤ vec_capacity list.new }

@@ -1,7 +1,7 @@
 //! The payload of a sample.
 
 ghost use Rattle.std.specs.Prelude.{◌≡◌, Some};
-ghost use Rattle.axis_roots.specs.declared.message.messages.Message.{Message as Sample};
+ghost use Rattle.axis_roots.specs.declared.message.messages.Message.{Message as Sent};
 ghost use Rattle.namespace_id.specs.Answers.{Gives};
 ghost use Rattle.frame_fields.specs.Messages.{message_front, message_at, shown_front};
 
@@ -53,7 +53,7 @@ pub fn shown_front(bytes: &[u8]) -> Option<(Cell, Share)>
     ensures value { result ≡ shown_front bytes.now }
 
     // Of a payload that is a sample they are those of the sample.
-    ensures sample { (m : Sample) → message_at bytes.now ≡ Some m →
+    ensures sample { (m : Sent) → message_at bytes.now ≡ Some m →
         result ≡ Some (m.cell, m.share) }
 {
     let (cell, rest) = cell_at(bytes)?;

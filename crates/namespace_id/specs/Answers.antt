@@ -8,8 +8,8 @@ Gives view None read = read ≡ None
 Gives view (Some x) read = read ≡ Some (view x)
 
 -- there is capacity for so many values more
-abbrev pub HasRoom : {A : Type 0} → Vec A Global → ℕ → Type 0
-HasRoom out count = vec_len out + count ≤ vec_capacity out
+abbrev pub HasCapacity : {A : Type 0} → Vec A Global → ℕ → Type 0
+HasCapacity out count = vec_len out + count ≤ vec_capacity out
 
 -- the refusal that an answer gives, none of an `Ok`
 abbrev pub refusal_in : {T E : Type 0} → Result T E → Option E

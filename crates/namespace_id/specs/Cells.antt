@@ -73,4 +73,4 @@ with_cell cells cell = record { k = cells.k; list = cells.list ++ cell ∷ [] }
 -- these are cells of the square of this width, row-major, and there is capacity for each cell of the square
 pub record IsCellRoom (k : ℕ) (list : Vec Cell Global) : Type 0 where
   pub cells : are_cells k list.items ≡ true
-  pub room : 2 * k * (2 * k) ≤ vec_capacity list
+  pub capacity : 2 * k * (2 * k) ≤ vec_capacity list

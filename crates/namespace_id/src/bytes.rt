@@ -1,7 +1,7 @@
 //! Byte strings: what is known of their numbers, and writing a part into one or behind it.
 
 ghost use Rattle.std.specs.Prelude.{◌≡◌, ◌+◌, ◌≤◌, ◌++◌, length, take, drop, vec_len, vec_capacity};
-ghost use Rattle.namespace_id.specs.Answers.{HasRoom};
+ghost use Rattle.namespace_id.specs.Answers.{HasCapacity};
 ghost use Rattle.namespace_id.specs.Bytes.{AreBytes};
 
 /// Says that the bytes of a slice are below 256. It does nothing: a proof that needs the fact of
@@ -20,7 +20,7 @@ pub fn write_at(bytes: &mut [u8], at: usize, part: &[u8])
 
 /// Appends bytes for which there is capacity.
 pub fn append(out: &mut Vec<u8>, bytes: &[u8])
-    requires room { HasRoom out.old (length bytes.now) }
+    requires capacity { HasCapacity out.old (length bytes.now) }
     ensures appended { out.new.items ≡ out.old.items ++ bytes.now }
     ensures len { vec_len out.new ≡ vec_len out.old + length bytes.now }
     ensures capacity { vec_capacity out.old ≤ vec_capacity out.new }

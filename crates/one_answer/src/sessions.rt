@@ -4,7 +4,7 @@ ghost use Rattle.std.specs.Prelude.{◌≡◌, ◌<◌, List, Result, IsOk, IfOk
 ghost use Rattle.std.specs.List.{AllByRecursion};
 ghost use Rattle.axis_roots.specs.declared.message.messages.Message.{Message as Sent};
 ghost use Rattle.axis_roots.specs.Proved.{IsUnder, kept_message};
-ghost use Rattle.repair_queue.specs.declared.fed.SessionState.TheVariants as state;
+ghost use Rattle.repair_queue.specs.declared.sessions.SessionState.TheVariants as state;
 ghost use Rattle.repair_queue.specs.SessionParts.{SessionStands};
 ghost use Rattle.repair_queue.specs.Sessions.{session_state};
 ghost use Rattle.repair_queue.specs.Verdicts.{AreAlike};

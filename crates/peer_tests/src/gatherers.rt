@@ -16,7 +16,7 @@ use std::process::Abort;
 
 /// What came of a talk: how many bytes were heard, which were said, how it ended, and the status that was kept.
 #[derive(Drop)]
-struct Told {
+struct Talked {
     heard: usize,
     said: Vec<u8>,
     end: TalkEnd,
@@ -64,7 +64,7 @@ fn add(
 }
 
 /// A talk of a repair under the header of a square: each read gives a byte.
-fn talk(rt: &impl Abort, alloc: Global, grid: &Grid, talk: Vec<u8>) -> Told
+fn talk(rt: &impl Abort, alloc: Global, grid: &Grid, talk: Vec<u8>) -> Talked
     requires { grid.now.k ≡ 2 }
 {
     let header = header(rt, alloc, grid);
@@ -88,7 +88,7 @@ fn talk(rt: &impl Abort, alloc: Global, grid: &Grid, talk: Vec<u8>) -> Told
     let end = gather(&mut gatherer, &mut room, &mut text, &mut line);
     let heard = heard(rt, line.log());
     drop(line);
-    Told {
+    Talked {
         heard,
         said: out.bytes,
         end,

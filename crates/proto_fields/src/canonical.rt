@@ -1,7 +1,7 @@
 //! Fields in their one spelling, read at the front of bytes.
 
 ghost use Rattle.std.specs.Prelude.{◌≡◌, ◌+◌, ◌*◌, ◌<◌, ◌≤◌, ◌++◌, length, vec_len, vec_capacity};
-ghost use Rattle.namespace_id.specs.Answers.{Gives, HasRoom};
+ghost use Rattle.namespace_id.specs.Answers.{Gives, HasCapacity};
 ghost use Rattle.proto_fields.specs.Canonical.{number_text, shortest_at, part_at, begins, begins_part, canonical_number, canonical_bytes, canonical_part};
 ghost use Rattle.proto_fields.specs.CanonicalLaws.{NumberIsRead, BytesAreRead, PartIsRead, ReadIsNumber, ReadAreBytes, ReadIsPart, NumberIsCommon, BytesAreCommon, PartIsCommon};
 
@@ -137,7 +137,7 @@ pub fn canonical_part(number: u8, bytes: &[u8]) -> Option<(&[u8], &[u8])>
 /// protobuf, "Encoding".
 #[tactic(auto, using(crate::proofs::WrittenLemmas::number_size_is_length))]
 pub fn put_canonical_number(number: u8, value: u64, out: &mut Vec<u8>)
-    requires room { HasRoom out.old (length (number_text number value)) }
+    requires capacity { HasCapacity out.old (length (number_text number value)) }
     ensures appended { out.new.items ≡ out.old.items ++ number_text number value }
     ensures len { vec_len out.new ≡ vec_len out.old + length (number_text number value) }
     ensures capacity { vec_capacity out.old ≤ vec_capacity out.new }

@@ -1,7 +1,7 @@
 //! Fields in their one spelling.
 
 ghost use Rattle.std.specs.Prelude.{◌≡◌, ◌+◌, ◌*◌, ◌-◌, ◌^◌, ◌≤◌, ◌<◌, ◌++◌, length, min, vec_len, vec_capacity};
-ghost use Rattle.namespace_id.specs.Answers.{HasRoom};
+ghost use Rattle.namespace_id.specs.Answers.{HasCapacity};
 ghost use Rattle.proto_fields.specs.Spelled.{text, bytes_field, number_field, field_size, number_size};
 
 use crate::varints::{put_varint, varint_size};
@@ -31,7 +31,7 @@ pub fn field_size(number: u32, len: u64) -> u64
 
 /// Appends bytes behind their length.
 fn put_text(bytes: &[u8], out: &mut Vec<u8>)
-    requires room { HasRoom out.old (length (text bytes.now)) }
+    requires capacity { HasCapacity out.old (length (text bytes.now)) }
     ensures appended { out.new.items ≡ out.old.items ++ text bytes.now }
     ensures len { vec_len out.new ≡ vec_len out.old + length (text bytes.now) }
     ensures capacity { vec_capacity out.old ≤ vec_capacity out.new }
@@ -45,7 +45,7 @@ fn put_text(bytes: &[u8], out: &mut Vec<u8>)
 ///
 /// protobuf, "Encoding".
 pub fn put_field(number: u32, bytes: &[u8], out: &mut Vec<u8>)
-    requires room { HasRoom out.old (field_size number (length bytes.now)) }
+    requires capacity { HasCapacity out.old (field_size number (length bytes.now)) }
     ensures appended { out.new.items ≡ out.old.items ++ bytes_field number bytes.now }
     ensures len { vec_len out.new ≡ vec_len out.old + field_size number (length bytes.now) }
     ensures capacity { vec_capacity out.old ≤ vec_capacity out.new }
@@ -59,7 +59,7 @@ pub fn put_field(number: u32, bytes: &[u8], out: &mut Vec<u8>)
 ///
 /// protobuf, "Encoding".
 pub fn put_number(number: u32, value: u64, out: &mut Vec<u8>)
-    requires room { HasRoom out.old (number_size number value) }
+    requires capacity { HasCapacity out.old (number_size number value) }
     ensures appended { out.new.items ≡ out.old.items ++ number_field number value }
     ensures len { vec_len out.new ≡ vec_len out.old + number_size number value }
     ensures capacity { vec_capacity out.old ≤ vec_capacity out.new }

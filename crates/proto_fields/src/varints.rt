@@ -1,7 +1,7 @@
 //! Varints: numbers of up to 64 bits, seven bits in a byte, the lowest first.
 
 ghost use Rattle.std.specs.Prelude.{◌≡◌, ◌+◌, ◌≤◌, ◌<◌, ◌^◌, ◌++◌, length, vec_len, vec_capacity, IfSome};
-ghost use Rattle.namespace_id.specs.Answers.{Gives, HasRoom};
+ghost use Rattle.namespace_id.specs.Answers.{Gives, HasCapacity};
 ghost use Rattle.proto_fields.specs.Varints.{varint, number_within, number_at};
 
 use namespace_id::append;
@@ -86,7 +86,7 @@ pub fn varint_size(number: u64) -> usize
 ///
 /// protobuf, "Encoding".
 pub fn put_varint(out: &mut Vec<u8>, number: u64)
-    requires room { HasRoom out.old (length (varint number)) }
+    requires capacity { HasCapacity out.old (length (varint number)) }
     ensures appended { out.new.items ≡ out.old.items ++ varint number }
     ensures len { vec_len out.new ≡ vec_len out.old + length (varint number) }
     ensures capacity { vec_capacity out.old ≤ vec_capacity out.new }

@@ -8,8 +8,8 @@ use Rattle.axis_roots.specs.Openings.{IsProved}
 use Rattle.axis_roots.specs.Own.{NamesClash}
 use Rattle.repair_queue.specs.declared.verdict.Verdict.{Verdict}
 use Rattle.repair_queue.specs.declared.verdict.Verdict.TheVariants.{Whole, Fraud, Missing, Clash}
-use Rattle.repair_queue.specs.declared.ending.Ended.{Ended}
-use Rattle.repair_queue.specs.declared.ending.Ended.TheVariants as ended
+use Rattle.repair_queue.specs.declared.ending.Ending.{Ending}
+use Rattle.repair_queue.specs.declared.ending.Ending.TheVariants as ended
 use Rattle.repair_queue.specs.Verdicts.{VerdictParts, whole, missing, fraud, clash}
 
 -- an answer as contracts see it
@@ -20,7 +20,7 @@ verdict_parts (Missing cells) = missing cells
 verdict_parts (Clash pair) = clash pair.left pair.right
 
 -- the answer with which a repair ends early
-abbrev pub EndsAs : Ended → Verdict → Type 0
+abbrev pub EndsAs : Ending → Verdict → Type 0
 EndsAs (ended.Fraud proof) verdict = verdict_parts verdict ≡ fraud proof.claim
 EndsAs (ended.Clash pair) verdict = verdict_parts verdict ≡ clash pair.left pair.right
 

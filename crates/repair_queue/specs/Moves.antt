@@ -9,7 +9,7 @@ use Rattle.axis_roots.specs.declared.message.proved.Proved.{Proved}
 use Rattle.axis_roots.specs.Proved.{kept_message, IsUnder}
 use Rattle.repair_queue.specs.declared.boards.Board.{Board}
 use Rattle.repair_queue.specs.declared.tools.Tools.{Tools}
-use Rattle.repair_queue.specs.declared.ending.Ended.{Ended}
+use Rattle.repair_queue.specs.declared.ending.Ending.{Ending}
 use Rattle.repair_queue.specs.Lines.{AreFacts}
 use Rattle.repair_queue.specs.Repairs.{IsEnd}
 use Rattle.repair_queue.specs.Boards.{given_of, decided_of, IsGood, HoldsFor, AreAtRest}
@@ -21,18 +21,18 @@ IsKeptOn header s t m =
     IsGood header t × ((ms : List Message) → HoldsFor header ms s → HoldsFor header (ms ++ m ∷ []) t)
 
 -- a sample is taken in, or it ends the session
-abbrev pub TakesMessage : Roots → Board → Board → Tools → Message → Option Ended → Type 0
+abbrev pub TakesMessage : Roots → Board → Board → Tools → Message → Option Ending → Type 0
 TakesMessage header s t tools m None = IsKeptOn header s t m × AreTools header.k tools
 TakesMessage header s t tools m (Some ended) = (ms : List Message) → HoldsFor header ms s → IsEnd header (ms ++ m ∷ []) ended
 
 -- a row or a column is decided, or it ends the session
-abbrev pub DecidesLine : Roots → Board → Board → Tools → Option Ended → Type 0
+abbrev pub DecidesLine : Roots → Board → Board → Tools → Option Ending → Type 0
 DecidesLine header s t tools None =
     IsGood header t × AreTools header.k tools × ((ms : List Message) → HoldsFor header ms s → HoldsFor header ms t)
 DecidesLine header s t tools (Some ended) = (ms : List Message) → HoldsFor header ms s → IsEnd header ms ended
 
 -- a line with the header's root is kept, or a share that is known contradicts it
-abbrev pub SettlesLine : Roots → Board → Board → Tools → Axis → ℕ → List Share → Option Ended → Type 0
+abbrev pub SettlesLine : Roots → Board → Board → Tools → Axis → ℕ → List Share → Option Ending → Type 0
 SettlesLine header s t tools axis i line None =
     IsGood header t × AreTools header.k tools
     × ((ms : List Message) → AreFacts header ms axis i line → HoldsFor header ms s → HoldsFor header ms t)
@@ -40,14 +40,14 @@ SettlesLine header s t tools axis i line (Some ended) =
     (ms : List Message) → AreFacts header ms axis i line → HoldsFor header ms s → IsEnd header ms ended
 
 -- all that can be decided is, or something ends the session
-abbrev pub Drains : Roots → Board → Board → Tools → Option Ended → Type 0
+abbrev pub Drains : Roots → Board → Board → Tools → Option Ending → Type 0
 Drains header s t tools None =
     IsGood header t × AreTools header.k tools × AreAtRest header.k (given_of t) (decided_of t)
     × ((ms : List Message) → HoldsFor header ms s → HoldsFor header ms t)
 Drains header s t tools (Some ended) = (ms : List Message) → HoldsFor header ms s → IsEnd header ms ended
 
 -- both of a sample: it is taken in, and what it lets decide is
-abbrev pub Steps : Roots → Board → Board → Tools → Message → Option Ended → Type 0
+abbrev pub Steps : Roots → Board → Board → Tools → Message → Option Ending → Type 0
 Steps header s t tools m None =
     IsGood header t × AreTools header.k tools × AreAtRest header.k (given_of t) (decided_of t)
     × ((ms : List Message) → HoldsFor header ms s → HoldsFor header (ms ++ m ∷ []) t)

@@ -75,16 +75,16 @@ pub record IsPool (k : ℕ) (place : Axis → Cell → ℕ) (given : List (Optio
   pub used : length given ≡ 1 + samples_of_all k (slots_by given place) + length left
   pub few : (row : ℕ) → row < 2 * k → samples_of_row k (slots_by given place) row < 2 * k
   pub most : length given ≤ 2 * k * (2 * k)
-  pub free_room : 2 * k * (2 * k) ≤ room
+  pub free_capacity : 2 * k * (2 * k) ≤ room
 
 -- where no place is free there is capacity for one more
 abbrev pub HasPlace : PoolParts → Type 0
 HasPlace p = length p.free ≡ 0 → length p.given < p.capacity
 
 -- there is capacity for as many places as there are cells
-abbrev pub IsRoomy : PoolParts → Type 0
-IsRoomy p = 2 * p.places.k * (2 * p.places.k) ≤ p.capacity
+abbrev pub HasFullCapacity : PoolParts → Type 0
+HasFullCapacity p = 2 * p.places.k * (2 * p.places.k) ≤ p.capacity
 
 -- one that had such capacity has it still
-abbrev pub StaysRoomy : PoolParts → PoolParts → Type 0
-StaysRoomy old new = IsRoomy old → IsRoomy new
+abbrev pub KeepsCapacity : PoolParts → PoolParts → Type 0
+KeepsCapacity old new = HasFullCapacity old → HasFullCapacity new

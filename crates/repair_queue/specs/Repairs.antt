@@ -7,8 +7,8 @@ use Rattle.data_header.specs.Headers.{Roots}
 use Rattle.axis_roots.specs.declared.message.messages.Message.{Message}
 use Rattle.axis_roots.specs.declared.message.proved.Proved.{Proved}
 use Rattle.axis_roots.specs.Proved.{kept_message, IsUnder}
-use Rattle.repair_queue.specs.declared.ending.Ended.{Ended}
-use Rattle.repair_queue.specs.declared.ending.Ended.TheVariants.{Fraud, Clash}
+use Rattle.repair_queue.specs.declared.ending.Ending.{Ending}
+use Rattle.repair_queue.specs.declared.ending.Ending.TheVariants.{Fraud, Clash}
 use Rattle.repair_queue.specs.Verdicts.{IsFraud, IsFoundClash}
 
 -- a slot holds a sample with this share
@@ -24,6 +24,6 @@ pub record IsSlotted (header : Roots) (axis : Axis) (cell : Cell) (kept : Proved
   pub cell_is : (kept_message kept).cell ≡ cell
 
 -- a fraud proof of facts, or a collision that is named by trees that are known
-abbrev pub IsEnd : Roots → List Message → Ended → Type 0
+abbrev pub IsEnd : Roots → List Message → Ending → Type 0
 IsEnd header ms (Fraud proof) = IsFraud header ms proof.claim
 IsEnd header ms (Clash clash) = IsFoundClash header ms clash.left clash.right

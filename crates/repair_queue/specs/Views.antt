@@ -5,12 +5,12 @@ use Rattle.axis_roots.specs.declared.message.messages.Message.{Message}
 use Rattle.axis_roots.specs.declared.message.proved.Proved.{Proved}
 use Rattle.axis_roots.specs.Proved.{kept_message}
 use Rattle.repair_queue.specs.declared.boards.Board.{Board}
-use Rattle.repair_queue.specs.declared.ending.Ended.{Ended}
-use Rattle.repair_queue.specs.declared.ending.Ended.TheVariants.{Fraud, Clash}
+use Rattle.repair_queue.specs.declared.ending.Ending.{Ending}
+use Rattle.repair_queue.specs.declared.ending.Ending.TheVariants.{Fraud, Clash}
 use Rattle.repair_queue.specs.SessionParts.{SessionParts, SessionEnd, going, accused, collided}
 
 -- what ended it
-abbrev pub end_of : Option Ended → SessionEnd
+abbrev pub end_of : Option Ending → SessionEnd
 end_of None = going
 end_of (Some (Fraud proof)) = accused proof.claim
 end_of (Some (Clash clash)) = collided clash.left clash.right
@@ -21,7 +21,7 @@ certified_message None = None
 certified_message (Some kept) = Some (kept_message kept)
 
 -- a session by its header, its board and what ended it
-abbrev pub parts_by : Roots → Board → Option Ended → SessionParts
+abbrev pub parts_by : Roots → Board → Option Ending → SessionParts
 parts_by header b end = record {
   header = header;
   kept = map certified_message b.pool.given;

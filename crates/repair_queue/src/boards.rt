@@ -39,7 +39,7 @@ impl Board {
             (λ b. (axis : Along) (cell : Place) → given_of b axis cell ≡ None) }
         ensures undecided { IfOk result
             (λ b. (axis : Along) (i : ℕ) → decided_of b axis i ≡ false) }
-        ensures room { IfOk result (λ b. places ≤ b.pool.capacity) }
+        ensures capacity { IfOk result (λ b. places ≤ b.pool.capacity) }
     {
         let pool = Pool::new(alloc, k, places)?;
         let marks = Marks::new(alloc, k)?;

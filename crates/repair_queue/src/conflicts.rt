@@ -12,7 +12,7 @@ ghost use Rattle.repair_queue.specs.Lines.{AreFacts};
 ghost use Rattle.repair_queue.specs.Repairs.{IsEnd};
 ghost use Rattle.repair_queue.specs.Tools.{HasSpare};
 
-use crate::ending::Ended;
+use crate::ending::Ending;
 use crate::tools::Tools;
 use axis_roots::{Message, Proved, position};
 use befp_maker::from_conflict;
@@ -28,7 +28,7 @@ pub(crate) fn conflict(
     axis: Axis,
     index: u16,
     other: Proved,
-) -> Ended
+) -> Ending
     requires room { tools.old.room.k ≡ header.now.k }
     requires spare { HasSpare header.now.k tools.old.spare }
     requires index { index < 2 * header.now.k }
@@ -41,8 +41,8 @@ pub(crate) fn conflict(
     let cells = tools.spare.take().unwrap();
     let line = &tools.line;
     match from_conflict(&mut tools.room, header, axis, index, line, other, cells) {
-        Ok(proof) => Ended::Fraud(proof),
-        Err(clash) => Ended::Clash(clash),
+        Ok(proof) => Ending::Fraud(proof),
+        Err(clash) => Ending::Clash(clash),
     }
 }
 

@@ -8,10 +8,10 @@ ghost use Rattle.axis_roots.specs.declared.message.messages.Message.{Message};
 ghost use Rattle.repair_queue.specs.Closures.{Half};
 ghost use Rattle.repair_queue.specs.SessionParts.{SessionStands};
 ghost use Rattle.repair_queue.specs.Sessions.{session_state};
-ghost use Rattle.repair_queue.specs.declared.fed.SessionState.TheVariants as state;
+ghost use Rattle.repair_queue.specs.declared.sessions.SessionState.TheVariants as state;
 
-use crate::fed::Session;
 use crate::marks::Marks;
+use crate::sessions::Session;
 
 /// Whether all rows are decided.
 fn are_rows_marked(marks: &Marks) -> bool

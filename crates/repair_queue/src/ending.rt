@@ -5,7 +5,7 @@ use hash_clash::Clash;
 
 /// What ends a repair before all is decided.
 #[derive(Drop)]
-pub(crate) enum Ended {
+pub(crate) enum Ending {
     Fraud(FraudProof),
     Clash(Clash),
 }

@@ -3,7 +3,7 @@
 ghost use Rattle.std.specs.Prelude.{◌≡◌, IsNone, None, true, false};
 ghost use Rattle.namespace_id.specs.Cells.{is_in_square};
 ghost use Rattle.axis_roots.specs.Proved.{IsUnder, kept_message};
-ghost use Rattle.repair_queue.specs.Pools.{slot_in, HasPlace, StaysRoomy};
+ghost use Rattle.repair_queue.specs.Pools.{slot_in, HasPlace, KeepsCapacity};
 ghost use Rattle.repair_queue.specs.Repairs.{Shows};
 ghost use Rattle.repair_queue.specs.Boards.{given_of, decided_of, is_lined, IsGood, AreAtRest};
 ghost use Rattle.repair_queue.specs.Tools.{AreTools};
@@ -11,7 +11,7 @@ ghost use Rattle.repair_queue.specs.Moves.{IsKeptOn, TakesMessage, Steps};
 
 use crate::boards::{Board, decided_through, is_known};
 use crate::conflicts::{beside, conflict};
-use crate::ending::Ended;
+use crate::ending::Ending;
 use crate::judging::drain;
 use crate::making::read_along;
 use crate::pools::{Pool, held_in, put_in, take_out};
@@ -42,7 +42,7 @@ fn keep_new(board: &mut Board, header: &Header, message: Proved)
     requires empty { given_of board.old (kept_message message).axis (kept_message message).cell
         ≡ None }
     ensures kept { IsKeptOn header.now board.old board.new (kept_message message) }
-    ensures room { StaysRoomy board.old.pool board.new.pool }
+    ensures capacity { KeepsCapacity board.old.pool board.new.pool }
 {
     let cell = message.message().cell;
     let was_known = is_known(board, cell);
@@ -55,14 +55,14 @@ fn keep_new(board: &mut Board, header: &Header, message: Proved)
 
 /// Takes a sample in, or names what is wrong where its decided row or column has another share, or a
 /// sample that is kept along its axis shows one. One whose share is known is dropped.
-fn take(board: &mut Board, tools: &mut Tools, header: &Header, message: Proved) -> Option<Ended>
+fn take(board: &mut Board, tools: &mut Tools, header: &Header, message: Proved) -> Option<Ending>
     requires good { IsGood header.now board.old }
     requires rest { AreAtRest header.now.k (given_of board.old) (decided_of board.old) }
     requires place { HasPlace board.old.pool }
     requires tools { AreTools header.now.k tools.old }
     requires under { IsUnder header.now message }
     ensures takes { TakesMessage header.now board.old board.new tools.new (kept_message message) result }
-    ensures room { StaysRoomy board.old.pool board.new.pool }
+    ensures capacity { KeepsCapacity board.old.pool board.new.pool }
 {
     let shown = message.message();
     let (own, cell, share) = (shown.axis, shown.cell, &shown.share);
@@ -79,7 +79,7 @@ fn take(board: &mut Board, tools: &mut Tools, header: &Header, message: Proved) 
             return None;
         }
         let kept = take_out(&mut board.pool, own, cell).unwrap();
-        return Some(Ended::Clash(beside(header, message, kept)));
+        return Some(Ending::Clash(beside(header, message, kept)));
     }
     if shows(&board.pool, own.crossing(), cell, share) {
         return None;
@@ -94,14 +94,14 @@ pub(crate) fn step(
     tools: &mut Tools,
     header: &Header,
     message: Proved,
-) -> Option<Ended>
+) -> Option<Ending>
     requires good { IsGood header.now board.old }
     requires rest { AreAtRest header.now.k (given_of board.old) (decided_of board.old) }
     requires place { HasPlace board.old.pool }
     requires tools { AreTools header.now.k tools.old }
     requires under { IsUnder header.now message }
     ensures steps { Steps header.now board.old board.new tools.new (kept_message message) result }
-    ensures room { IsNone result → StaysRoomy board.old.pool board.new.pool }
+    ensures capacity { IsNone result → KeepsCapacity board.old.pool board.new.pool }
 {
     let ended = take(board, tools, header, message);
     if ended.is_some() {

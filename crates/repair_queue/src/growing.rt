@@ -12,11 +12,11 @@ ghost use Rattle.repair_queue.specs.Verdicts.{IsVerdict};
 ghost use Rattle.repair_queue.specs.Answers.{verdict_parts};
 ghost use Rattle.repair_queue.specs.SessionParts.{SessionStands};
 ghost use Rattle.repair_queue.specs.Sessions.{session_state, IsOfState};
-ghost use Rattle.repair_queue.specs.declared.fed.SessionState.TheVariants as state;
+ghost use Rattle.repair_queue.specs.declared.sessions.SessionState.TheVariants as state;
 
 use crate::Verdict;
 use crate::boards::Board;
-use crate::ending::Ended;
+use crate::ending::Ending;
 use crate::entering::step;
 use crate::sessions::{answer_ended, answer_open, width};
 use crate::tools::Tools;
@@ -39,7 +39,7 @@ pub struct GrowingSession {
     header: Header,
     board: Board,
     tools: Tools,
-    ended: Option<Ended>,
+    ended: Option<Ending>,
     // for the missing cells that `finish` hands out
     room: CellRoom,
 }

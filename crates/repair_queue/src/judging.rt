@@ -16,7 +16,7 @@ ghost use Rattle.repair_queue.specs.Lines.{AreFacts};
 ghost use Rattle.repair_queue.specs.Repairs.{IsEnd};
 ghost use Rattle.repair_queue.specs.Steps.{IsSpare};
 ghost use Rattle.repair_queue.specs.Counts.{count_of};
-ghost use Rattle.repair_queue.specs.Pools.{StaysRoomy};
+ghost use Rattle.repair_queue.specs.Pools.{KeepsCapacity};
 ghost use Rattle.repair_queue.specs.Boards.{given_of, decided_of, shared_of, found_count, found_share, is_found, AreAlikeLined, AreParts, IsGood, HoldsFor};
 ghost use Rattle.repair_queue.specs.Tools.{AreTools, AreGathered, HasSpare};
 ghost use Rattle.repair_queue.specs.Judging.{IsAlikeAt, IsApartAt, IsReadable, IsTakenAt, AreFoundAt, AreShownBy, IsOtherMessage, IsApartOrAlike};
@@ -24,7 +24,7 @@ ghost use Rattle.repair_queue.specs.Moves.{DecidesLine, SettlesLine, Drains, IsM
 
 use crate::boards::{Board, decided_through, is_on_decided};
 use crate::conflicts::conflict;
-use crate::ending::Ended;
+use crate::ending::Ending;
 use crate::gathering::{complete, gather};
 use crate::keeping::keep_line;
 use crate::making::{make, take_first, take_other};
@@ -153,7 +153,7 @@ fn messages_known(
 }
 
 /// The fraud proof of a row or a column by the k known cells that were gathered.
-fn accuse(board: &mut Board, tools: &mut Tools, header: &Header, axis: Axis, index: u16) -> Ended
+fn accuse(board: &mut Board, tools: &mut Tools, header: &Header, axis: Axis, index: u16) -> Ending
     requires readable { IsReadable header.now board.old }
     requires tools { AreTools header.now.k tools.old }
     requires index { index < 2 * header.now.k }
@@ -179,7 +179,7 @@ fn accuse(board: &mut Board, tools: &mut Tools, header: &Header, axis: Axis, ind
         &tools.known,
         cells,
     );
-    Ended::Fraud(FraudProof {
+    Ending::Fraud(FraudProof {
         k: width(header),
         axis,
         index,
@@ -197,7 +197,7 @@ fn contradict(
     axis: Axis,
     index: u16,
     pos: u16,
-) -> Ended
+) -> Ending
     requires readable { IsReadable header.now board.old }
     requires tools { AreTools header.now.k tools.old }
     requires index { index < 2 * header.now.k }
@@ -230,7 +230,7 @@ fn settle(
     axis: Axis,
     index: u16,
     apart: Option<u16>,
-) -> Option<Ended>
+) -> Option<Ending>
     requires good { IsGood header.now board.old }
     requires tools { AreTools header.now.k tools.old }
     requires index { index < 2 * header.now.k }
@@ -243,7 +243,7 @@ fn settle(
     ensures settles { SettlesLine header.now board.old board.new tools.new axis index
         tools.old.line.items result }
     ensures next { IsNone result → board.new.counts.next ≡ board.old.counts.next }
-    ensures room { IsNone result → StaysRoomy board.old.pool board.new.pool }
+    ensures capacity { IsNone result → KeepsCapacity board.old.pool board.new.pool }
     ensures flagged { IsNone result →
         IsFlagged (decided_of board.old) (decided_of board.new) axis index }
 {
@@ -335,7 +335,7 @@ fn decide(
     header: &Header,
     axis: Axis,
     index: u16,
-) -> Option<Ended>
+) -> Option<Ending>
     requires good { IsGood header.now board.old }
     requires tools { AreTools header.now.k tools.old }
     requires index { index < 2 * header.now.k }
@@ -344,7 +344,7 @@ fn decide(
         index (2 * header.now.k) }
     ensures decides { DecidesLine header.now board.old board.new tools.new result }
     ensures next { IsNone result → board.new.counts.next ≡ board.old.counts.next }
-    ensures room { IsNone result → StaysRoomy board.old.pool board.new.pool }
+    ensures capacity { IsNone result → KeepsCapacity board.old.pool board.new.pool }
     ensures flagged { IsNone result →
         IsFlagged (decided_of board.old) (decided_of board.new) axis index }
 {
@@ -374,11 +374,11 @@ fn is_due(board: &Board, header: &Header, axis: Axis, index: u16) -> bool
 }
 
 /// Decides rows and columns until none is left that can be decided, or one ends the session.
-pub(crate) fn drain(board: &mut Board, tools: &mut Tools, header: &Header) -> Option<Ended>
+pub(crate) fn drain(board: &mut Board, tools: &mut Tools, header: &Header) -> Option<Ending>
     requires good { IsGood header.now board.old }
     requires tools { AreTools header.now.k tools.old }
     ensures drains { Drains header.now board.old board.new tools.new result }
-    ensures room { IsNone result → StaysRoomy board.old.pool board.new.pool }
+    ensures capacity { IsNone result → KeepsCapacity board.old.pool board.new.pool }
 {
     while let Some((axis, index)) = board.counts.first_queued() {
         if is_due(board, header, axis, index) {

@@ -9,7 +9,7 @@ ghost use Rattle.axis_roots.specs.Trees.{line_leaves};
 ghost use Rattle.befp_maker.specs.Conflicts.{IsLineOf};
 ghost use Rattle.repair_queue.specs.Slots.{IsFlagged};
 ghost use Rattle.repair_queue.specs.Counts.{count_of, pending};
-ghost use Rattle.repair_queue.specs.Pools.{slot_in, StaysRoomy};
+ghost use Rattle.repair_queue.specs.Pools.{slot_in, KeepsCapacity};
 ghost use Rattle.repair_queue.specs.Boards.{given_of, decided_of, shared_of, mark_of, is_lined, AreAlikeLined, AreCounted, IsGood};
 ghost use Rattle.repair_queue.specs.Keeping.{IsAlikeAll, IsCountedTo, AreWrittenLeaves, IsClearedAt, IsClearedTo, IsLineKept};
 
@@ -102,7 +102,7 @@ fn clear_cell(pool: &mut Pool, cell: Cell)
     requires cell { is_in_square pool.old.places.k cell ≡ true }
     ensures width { pool.new.places.k ≡ pool.old.places.k }
     ensures cleared { IsClearedAt (slot_in pool.old) (slot_in pool.new) cell }
-    ensures room { StaysRoomy pool.old pool.new }
+    ensures capacity { KeepsCapacity pool.old pool.new }
 {
     take_out(pool, Axis::Row, cell);
     take_out(pool, Axis::Col, cell);
@@ -116,7 +116,7 @@ fn clear_line(pool: &mut Pool, k: u16, axis: Axis, index: u16)
     ensures width { pool.new.places.k ≡ pool.old.places.k }
     ensures cleared { IsClearedTo (slot_in pool.old) (slot_in pool.new) axis index
         (2 * pool.old.places.k) }
-    ensures room { StaysRoomy pool.old pool.new }
+    ensures capacity { KeepsCapacity pool.old pool.new }
 {
     for pos in 0..2 * k {
         clear_cell(pool, cell_on(axis, index, pos));
@@ -142,7 +142,7 @@ pub(crate) fn keep_line(
     ensures kept { IsLineKept header.now board.old board.new axis index line.now }
     ensures next { board.new.counts.next ≡ board.old.counts.next }
     ensures flagged { IsFlagged (decided_of board.old) (decided_of board.new) axis index }
-    ensures room { StaysRoomy board.old.pool board.new.pool }
+    ensures capacity { KeepsCapacity board.old.pool board.new.pool }
 {
     count_line(&board.pool, &board.marks, &mut board.counts, axis, index);
     write_line(&board.marks, &mut board.grid, axis, index, line);

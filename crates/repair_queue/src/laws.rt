@@ -21,7 +21,7 @@ ghost use Rattle.repair_queue.specs.Settled.{IsSettled, Lines, Fits, along, Cell
 ghost use Rattle.repair_queue.specs.Verdicts.{VerdictParts, whole, missing, fraud, clash, IsVerdict, IsOwnVerdict, AreAlike};
 ghost use Rattle.repair_queue.specs.SessionParts.{SessionParts, accused, collided, is_known, SessionStands};
 ghost use Rattle.repair_queue.specs.Sessions.{session_state};
-ghost use Rattle.repair_queue.specs.declared.fed.SessionState.TheVariants as state;
+ghost use Rattle.repair_queue.specs.declared.sessions.SessionState.TheVariants as state;
 ghost use Rattle.repair_queue.specs.Laws.{HalfIsLeast, FactIsLeast, LinesAreFacts, FactsAreWhole, OwnUnlessNamed};
 
 /// What is proved of the cells that are recoverable and of the facts, for any header and any list

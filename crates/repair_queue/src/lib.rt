@@ -14,7 +14,6 @@ mod counts;
 mod coverage;
 mod ending;
 mod entering;
-mod fed;
 mod gathering;
 mod growing;
 mod judging;
@@ -30,8 +29,8 @@ mod sessions;
 mod tools;
 mod verdict;
 
-pub use fed::{Session, SessionState};
 pub use growing::GrowingSession;
 pub use laws::{closure_laws, session_laws, settled_laws, verdict_laws};
 pub use repairing::repair_list;
+pub use sessions::{Session, SessionState};
 pub use verdict::Verdict;

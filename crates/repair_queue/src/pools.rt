@@ -10,7 +10,7 @@ ghost use Rattle.namespace_id.specs.declared.cells.Axis.{Axis as Along};
 ghost use Rattle.namespace_id.specs.Cells.{is_width, is_in_square};
 ghost use Rattle.axis_roots.specs.Proved.{kept_message};
 ghost use Rattle.repair_queue.specs.Slots.{IsPut, IsEmptied, IsApart, IsAlike};
-ghost use Rattle.repair_queue.specs.Pools.{slot_in, samples_of_row, IsStored, HasPlace, IsRoomy, StaysRoomy};
+ghost use Rattle.repair_queue.specs.Pools.{slot_in, samples_of_row, IsStored, HasPlace, HasFullCapacity, KeepsCapacity};
 
 use crate::placing::Places;
 use axis_roots::Proved;
@@ -51,7 +51,7 @@ impl Model for Pool {
 fn store(given: &mut Vec<Option<Proved>>, free: &mut Vec<usize>, kept: Proved) -> usize
     requires within { (i : ℕ) → i < length free.old.items →
         get_or free.old.items i 0 < length given.old.items }
-    requires room { length free.old.items ≡ 0 → vec_len given.old < vec_capacity given.old }
+    requires capacity { length free.old.items ≡ 0 → vec_len given.old < vec_capacity given.old }
     ensures stored { IsStored given.old.items given.new.items free.old.items free.new.items kept
         result }
     ensures given { vec_capacity given.old ≤ vec_capacity given.new }
@@ -76,7 +76,7 @@ impl Pool {
     pub(crate) fn new(alloc: Global, k: u16, places: usize) -> Result<Pool, NoMemory>
         requires width { IsTrue (is_width k) }
         ensures width { IfOk result (λ p. p.places.k ≡ k) }
-        ensures room { IfOk result (λ p. places ≤ p.capacity) }
+        ensures capacity { IfOk result (λ p. places ≤ p.capacity) }
         ensures empty { IfOk result
             (λ p. (axis : Along) (cell : Place) → slot_in p axis cell ≡ None) }
     {
@@ -96,7 +96,7 @@ impl Pool {
 
     /// With capacity for as many places as there are cells there is a place for one sample more. It changes nothing.
     pub(crate) fn place_law(&self)
-        ensures { IsRoomy self.now → HasPlace self.now }
+        ensures { HasFullCapacity self.now → HasPlace self.now }
     {
         let _given = &self.given;
     }
@@ -137,7 +137,7 @@ pub(crate) fn put_in(pool: &mut Pool, kept: Proved)
     ensures width { pool.new.places.k ≡ pool.old.places.k }
     ensures put { IsPut (slot_in pool.old) (slot_in pool.new) (kept_message kept).axis
         (kept_message kept).cell kept }
-    ensures room { StaysRoomy pool.old pool.new }
+    ensures capacity { KeepsCapacity pool.old pool.new }
 {
     let message = kept.message();
     let (axis, cell) = (message.axis, message.cell);
@@ -151,7 +151,7 @@ pub(crate) fn take_out(pool: &mut Pool, axis: Axis, cell: Cell) -> Option<Proved
     ensures value { result ≡ slot_in pool.old axis cell }
     ensures width { pool.new.places.k ≡ pool.old.places.k }
     ensures emptied { IsEmptied (slot_in pool.old) (slot_in pool.new) axis cell }
-    ensures room { StaysRoomy pool.old pool.new }
+    ensures capacity { KeepsCapacity pool.old pool.new }
 {
     let place = pool.places.at(axis, cell);
     if pool.given[place].is_none() {

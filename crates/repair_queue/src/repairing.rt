@@ -11,7 +11,7 @@ ghost use Rattle.repair_queue.specs.Verdicts.{VerdictParts, IsVerdict, IsOwnVerd
 ghost use Rattle.repair_queue.specs.Answers.{verdict_parts, SomeNames};
 
 use crate::Verdict;
-use crate::fed::Session;
+use crate::sessions::Session;
 use axis_roots::Proved;
 use data_header::Header;
 use namespace_id::NoMemory;

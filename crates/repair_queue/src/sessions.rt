@@ -29,20 +29,62 @@ ghost use Rattle.repair_queue.specs.Answers.{verdict_parts, EndsAs};
 ghost use Rattle.repair_queue.specs.SessionParts.{SessionStands};
 ghost use Rattle.repair_queue.specs.Views.{end_of};
 ghost use Rattle.repair_queue.specs.Sessions.{state_by, session_state, IsOfState, AreLeft, AreNotFound, AreOriginals};
-ghost use Rattle.repair_queue.specs.declared.fed.SessionState.TheVariants as state;
+ghost use Rattle.repair_queue.specs.declared.sessions.SessionState.TheVariants as state;
 
 use crate::Verdict;
 use crate::boards::{Board, is_known};
-use crate::ending::Ended;
+use crate::ending::Ending;
 use crate::entering::step;
-use crate::fed::{Session, SessionState};
 use crate::placing::number;
 use crate::tools::Tools;
-use axis_roots::{Message as Sample, PartialTrees, Proved, RefusedMessage};
+use axis_roots::{Message as Sent, PartialTrees, Proved, RefusedMessage};
 use data_header::Header;
 use namespace_id::{CellRoom, NoMemory, Share, cell_numbered};
 use square_layout::Square;
 use std::alloc::Global;
+use std::marker::Model;
+
+/// Where a session stands.
+#[derive(Clone, Copy, Debug, PartialEq, Eq)]
+pub enum SessionState {
+    /// Each row and column with k known cells fits the header.
+    Open,
+    /// A fraud proof was found.
+    Fraud,
+    /// A SHA-256 collision was found.
+    Clash,
+}
+
+/// A repair that is fed one proved sample at a time. All its memory is taken when it is made.
+/// Contracts see what it keeps, and for which lists of samples that stands.
+///
+/// It may be dropped at any time.
+///
+/// Al-Bassam, Sonnino, Buterin and Khoffi, 2-dimensional Reed-Solomon encoded Merkle tree;
+/// docs/RULES.md, "Closures and verdicts".
+#[derive(Drop)]
+pub struct Session {
+    pub(crate) header: Header,
+    // what accepted samples have shown of the trees under it
+    pub(crate) trees: PartialTrees,
+    pub(crate) board: Board,
+    pub(crate) tools: Tools,
+    pub(crate) ended: Option<Ending>,
+    // for the missing cells that `finish` hands out
+    pub(crate) room: CellRoom,
+}
+
+impl Model for Session {
+    ghost use Rattle.repair_queue.specs.SessionParts.{SessionParts};
+    ghost use Rattle.repair_queue.specs.Views.{parts_by};
+    ghost use Rattle.repair_queue.specs.OpenBoards.{IsSession};
+
+    ghost Value = { SessionParts };
+
+    ghost view = { λ s. parts_by s.header s.board s.ended };
+
+    ghost invariant = { λ s. IsSession s.header s.trees s.board s.tools s.ended s.room };
+}
 
 /// The width of a header's square.
 pub(crate) fn width(header: &Header) -> u16
@@ -117,13 +159,13 @@ pub(crate) fn answer_open(board: Board, header: &Header, room: CellRoom) -> Verd
 }
 
 /// The answer with which a session ended.
-pub(crate) fn answer_ended(ended: Ended) -> Verdict
+pub(crate) fn answer_ended(ended: Ending) -> Verdict
     ensures value { EndsAs ended result }
     ensures state { IsOfState (state_by (end_of (Some ended))) result }
 {
     match ended {
-        Ended::Fraud(proof) => Verdict::Fraud(proof),
-        Ended::Clash(clash) => Verdict::Clash(clash),
+        Ending::Fraud(proof) => Verdict::Fraud(proof),
+        Ending::Clash(clash) => Verdict::Clash(clash),
     }
 }
 
@@ -156,7 +198,7 @@ impl Session {
     /// Verifies a sample under the header, and makes the certificate of one that is accepted, as `check`
     /// of `axis_roots` does. What accepted ones have shown of the trees isn't hashed again. The session
     /// stands for what it was fed, as before. It takes no memory.
-    pub fn check(&mut self, message: Sample) -> Result<Proved, RefusedMessage>
+    pub fn check(&mut self, message: Sent) -> Result<Proved, RefusedMessage>
         ensures accepts { IsOk result ↔ IsProved self.old.header message }
         ensures under { IfOk result (IsUnder self.old.header) }
         ensures message { IfOk result (λ proved. kept_message proved ≡ message) }
@@ -193,8 +235,8 @@ impl Session {
     {
         match &self.ended {
             None => SessionState::Open,
-            Some(Ended::Fraud(_proof)) => SessionState::Fraud,
-            Some(Ended::Clash(_clash)) => SessionState::Clash,
+            Some(Ending::Fraud(_proof)) => SessionState::Fraud,
+            Some(Ending::Clash(_clash)) => SessionState::Clash,
         }
     }
 

@@ -2,7 +2,7 @@
 
 ghost use Rattle.std.specs.Prelude.{◌≡◌, ◌+◌, ◌^◌, ◌≤◌, ◌<◌, ◌++◌, ◌∷◌, [], ◌↔◌, length, take, drop, replicate, vec_len, vec_capacity, OnOk, OnErr, IsErrOf, is_some};
 ghost use Rattle.std.specs.Option.{option_copied};
-ghost use Rattle.namespace_id.specs.Answers.{HasRoom};
+ghost use Rattle.namespace_id.specs.Answers.{HasCapacity};
 ghost use Rattle.share_split.specs.Blobs.{first_blob_content, later_content, max_sequence_length, info, version_of, signer_bytes, sequence_share, first_share, later_share, later_shares, count_from, share_count, blob_shares_of};
 ghost use Rattle.share_split.specs.Joined.{padding_of, padding_share};
 
@@ -242,7 +242,7 @@ pub(crate) fn split_within(bytes: &[u8], most: usize) -> (&[u8], &[u8])
 
 /// Appends a share for which there is capacity.
 pub(crate) fn put_share(out: &mut Vec<Share>, share: Share)
-    requires room { HasRoom out.old 1 }
+    requires capacity { HasCapacity out.old 1 }
     ensures appended { out.new.items ≡ out.old.items ++ share ∷ [] }
     ensures len { vec_len out.new ≡ vec_len out.old + 1 }
     ensures capacity { vec_capacity out.old ≤ vec_capacity out.new }
@@ -253,7 +253,7 @@ pub(crate) fn put_share(out: &mut Vec<Share>, share: Share)
 /// Appends so many later shares.
 fn put_later(out: &mut Vec<Share>, namespace: &Namespace, version: u8, bytes: &[u8], count: usize)
     requires version { version < 128 }
-    requires room { HasRoom out.old count }
+    requires capacity { HasCapacity out.old count }
     ensures appended { out.new.items ≡ out.old.items ++
         later_shares count namespace.now version bytes.now }
 {

@@ -1,7 +1,7 @@
 //! Compact shares, and the reserved bytes in them.
 
 ghost use Rattle.std.specs.Prelude.{◌≡◌, ◌+◌, ◌≤◌, ◌<◌, ◌^◌, ◌++◌, length};
-ghost use Rattle.namespace_id.specs.Answers.{HasRoom};
+ghost use Rattle.namespace_id.specs.Answers.{HasCapacity};
 ghost use Rattle.share_split.specs.Blobs.{max_sequence_length};
 ghost use Rattle.share_split.specs.Units.{first_compact_content, later_compact_content, units_text, starts_from, content_start, reserved_of, first_compact_share, later_compact_share, later_compact_shares, compact_count, compact_shares};
 ghost use Rattle.share_split.specs.Texts.{starts_of};
@@ -54,7 +54,7 @@ fn put_later_compact(
     text: &[u8],
     count: usize,
 )
-    requires room { HasRoom out.old count }
+    requires capacity { HasCapacity out.old count }
     requires count { count < 2 ^ 32 }
     requires few { length (units_text units.now) < 2 ^ 64 }
     ensures appended { out.new.items ≡ out.old.items ++
@@ -89,7 +89,7 @@ pub(crate) fn put_compact(
     requires text { text.now ≡ units_text units.now }
     requires few { length text.now ≤ max_sequence_length }
     requires count { count ≡ compact_count (length text.now) }
-    requires room { HasRoom out.old count }
+    requires capacity { HasCapacity out.old count }
     ensures appended { out.new.items ≡ out.old.items ++ compact_shares namespace.now units.now }
 {
     let first = NextUnit { index: 0, start: 0 };

@@ -2,7 +2,7 @@
 
 ghost use Rattle.std.specs.Prelude.{◌≡◌, ◌+◌, ◌<◌, ◌^◌, ◌++◌, length, vec_len, vec_capacity, ◌≤◌, IfOk};
 ghost use Rattle.share_split.specs.Units.{unit_text, units_text, starts_on};
-ghost use Rattle.namespace_id.specs.Answers.{HasRoom};
+ghost use Rattle.namespace_id.specs.Answers.{HasCapacity};
 ghost use Rattle.share_split.specs.Texts.{IsNextOf, starts_of};
 
 use crate::Unit;
@@ -31,7 +31,7 @@ pub(crate) fn text_size(units: &[Unit]) -> u128
 
 /// Appends a unit behind its length.
 fn put_unit(out: &mut Vec<u8>, unit: &Unit)
-    requires room { HasRoom out.old (length (unit_text unit.now)) }
+    requires capacity { HasCapacity out.old (length (unit_text unit.now)) }
     ensures appended { out.new.items ≡ out.old.items ++ unit_text unit.now }
     ensures len { vec_len out.new ≡ vec_len out.old + length (unit_text unit.now) }
     ensures capacity { vec_capacity out.old ≤ vec_capacity out.new }

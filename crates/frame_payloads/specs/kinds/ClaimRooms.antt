@@ -11,5 +11,5 @@ set_where has_set nodes = if has_set then Some nodes else None
 
 -- there is capacity for the cells and the nodes of each claim of the grammar
 pub record IsClaimRoom (cells : Vec Message Global) (nodes : Vec Digest Global) : Type 0 where
-  pub cell_room : most_cells ≤ vec_capacity cells
-  pub node_room : most_set_nodes ≤ vec_capacity nodes
+  pub cell_capacity : most_cells ≤ vec_capacity cells
+  pub node_capacity : most_set_nodes ≤ vec_capacity nodes

@@ -3,7 +3,7 @@
 ghost use Rattle.std.specs.Prelude.{◌≡◌, ◌≤◌, ◌+◌, ◌++◌, ℕ, List, length, vec_len, vec_capacity};
 ghost use Rattle.std.specs.Int.{w16, w32, to_be_bytes};
 ghost use Rattle.std.specs.List.{flat_map};
-ghost use Rattle.namespace_id.specs.Answers.{HasRoom};
+ghost use Rattle.namespace_id.specs.Answers.{HasCapacity};
 ghost use Rattle.frame_payloads.specs.Payloads.{IsWithin, Puts};
 ghost use Rattle.frame_payloads.specs.codec.Texts.{list_bytes};
 
@@ -77,7 +77,7 @@ pub(crate) fn size_of<T: Text>(value: &T) -> Option<u32>
 
 /// Appends a value.
 pub(crate) fn append_text<T: Text>(out: &mut Vec<u8>, value: &T)
-    requires room { HasRoom out.old (length (T.text value.now)) }
+    requires capacity { HasCapacity out.old (length (T.text value.now)) }
     ensures appended { out.new.items ≡ out.old.items ++ T.text value.now }
     ensures len { vec_len out.new ≡ vec_len out.old + length (T.text value.now) }
     ensures capacity { vec_capacity out.old ≤ vec_capacity out.new }
@@ -87,7 +87,7 @@ pub(crate) fn append_text<T: Text>(out: &mut Vec<u8>, value: &T)
 
 /// Appends values, one after another.
 pub(crate) fn append_all<T: Text>(out: &mut Vec<u8>, values: &[T])
-    requires room { HasRoom out.old (length (flat_map T.text values.now)) }
+    requires capacity { HasCapacity out.old (length (flat_map T.text values.now)) }
     ensures appended { out.new.items ≡ out.old.items ++ flat_map T.text values.now }
     ensures len { vec_len out.new ≡ vec_len out.old + length (flat_map T.text values.now) }
     ensures capacity { vec_capacity out.old ≤ vec_capacity out.new }

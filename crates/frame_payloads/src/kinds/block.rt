@@ -1,7 +1,7 @@
 //! The payload of a block: judged where it lies, then read; and written.
 
 ghost use Rattle.std.specs.Prelude.{◌≡◌, length, None, Some, IfSome, MatchOption, ◌+◌, ◌++◌, IsSome, ◌↔◌, IsTrue, ◌==◌};
-ghost use Rattle.namespace_id.specs.Answers.{Gives, HasRoom};
+ghost use Rattle.namespace_id.specs.Answers.{Gives, HasCapacity};
 ghost use Rattle.share_split.specs.Blobs.{version_of, signer_bytes};
 ghost use Rattle.frame_fields.specs.Fields.{read_items};
 ghost use Rattle.frame_payloads.specs.Payloads.{GivesUnlessFull, IsSize, IsShort};
@@ -241,7 +241,7 @@ pub fn block_size(block: &Block) -> Option<u32>
 /// Appends the payload of a block.
 pub fn put_block(out: &mut Vec<u8>, block: &Block)
     requires few { IsShort (block_payload block.now) }
-    requires room { HasRoom out.old (length (block_payload block.now)) }
+    requires capacity { HasCapacity out.old (length (block_payload block.now)) }
     ensures appended { out.new.items ≡ out.old.items ++ block_payload block.now }
 {
     append_text(out, block);

@@ -19,7 +19,7 @@ use std::marker::Model;
 #[tactic(auto, using(crate::proofs::Fields::Many::kept_end))]
 fn fill_samples(list: &mut Vec<Message>, count: u16, bytes: &[u8])
     requires samples { IsSome (many_at message_front count bytes.now) }
-    requires room { count ≤ vec_capacity list.old }
+    requires capacity { count ≤ vec_capacity list.old }
     ensures items { list.new.items ≡ read_items (many_at message_front count bytes.now) }
     ensures capacity { vec_capacity list.old ≤ vec_capacity list.new }
 {
@@ -36,7 +36,7 @@ fn fill_samples(list: &mut Vec<Message>, count: u16, bytes: &[u8])
 #[tactic(auto, unfolding(frame_fields::specs::Fields::list_at))]
 fn fill_sample_list(list: &mut Vec<Message>, bytes: &[u8])
     requires samples { IsSome (claim_cells_at bytes.now) }
-    requires room { most_cells ≤ vec_capacity list.old }
+    requires capacity { most_cells ≤ vec_capacity list.old }
     ensures items { list.new.items ≡ read_items (claim_cells_at bytes.now) }
     ensures capacity { vec_capacity list.old ≤ vec_capacity list.new }
 {

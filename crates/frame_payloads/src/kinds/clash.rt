@@ -2,7 +2,7 @@
 //! written. Nothing here takes memory.
 
 ghost use Rattle.std.specs.Prelude.{◌≡◌, ◌≤◌, length, None, Some, IfSome, MatchOption, if◌then◌else◌, ◌+◌, ◌++◌};
-ghost use Rattle.namespace_id.specs.Answers.{Gives, HasRoom};
+ghost use Rattle.namespace_id.specs.Answers.{Gives, HasCapacity};
 ghost use Rattle.hash_clash.specs.Preimages.{longest};
 ghost use Rattle.frame_payloads.specs.kinds.Clash.{has_empty, clash_payload, side_at, is_collision, clash_at};
 ghost use Rattle.frame_payloads.specs.Payloads.{IsSize};
@@ -71,7 +71,7 @@ pub fn clash_size(clash: &Clash) -> Option<u32>
 
 /// Appends the payload of a collision.
 pub fn put_clash(out: &mut Vec<u8>, clash: &Clash)
-    requires room { HasRoom out.old (length (clash_payload clash.now)) }
+    requires capacity { HasCapacity out.old (length (clash_payload clash.now)) }
     ensures appended { out.new.items ≡ out.old.items ++ clash_payload clash.now }
 {
     put_text16(out, clash.left().bytes()).unwrap();

@@ -2,7 +2,7 @@
 
 ghost use Rattle.std.specs.Prelude.{◌≡◌, length, None, Some, IfSome, MatchOption, ◌+◌, ◌*◌, ◌++◌, IsSome, false, ◌↔◌, IsTrue};
 ghost use Rattle.std.specs.List.{list_any};
-ghost use Rattle.namespace_id.specs.Answers.{Gives, HasRoom};
+ghost use Rattle.namespace_id.specs.Answers.{Gives, HasCapacity};
 ghost use Rattle.frame_fields.specs.Fields.{read_items, digests_of};
 ghost use Rattle.frame_payloads.specs.Payloads.{GivesUnlessFull, IsSize};
 ghost use Rattle.frame_payloads.specs.kinds.Commit.{is_long_row, is_long_commit, row_bytes, commit_payload, row_at, rows_at, commit_at};
@@ -217,7 +217,7 @@ pub fn commit_size(proof: &CommitProof) -> Option<u32>
 /// Appends the payload of a commitment proof.
 pub fn put_commit(out: &mut Vec<u8>, proof: &CommitProof)
     requires short { is_long_commit proof.now ≡ false }
-    requires room { HasRoom out.old (length (commit_payload proof.now)) }
+    requires capacity { HasCapacity out.old (length (commit_payload proof.now)) }
     ensures appended { out.new.items ≡ out.old.items ++ commit_payload proof.now }
 {
     append_text(out, proof);

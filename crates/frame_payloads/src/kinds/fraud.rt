@@ -2,7 +2,7 @@
 //! form 1, and one with a set form 2.
 
 ghost use Rattle.std.specs.Prelude.{◌≡◌, ◌≤◌, ◌∷◌, length, map, None, Some, IfSome, MatchOption, ◌+◌, ◌++◌, ◌↔◌, IsSome, IsTrue, false};
-ghost use Rattle.namespace_id.specs.Answers.{HasRoom};
+ghost use Rattle.namespace_id.specs.Answers.{HasCapacity};
 ghost use Rattle.axis_roots.specs.Proved.{kept_message};
 ghost use Rattle.frame_fields.specs.Fields.{read_items};
 ghost use Rattle.frame_payloads.specs.Payloads.{GivesUnlessFull, IsSize, Puts};
@@ -179,7 +179,7 @@ pub fn proof_size(proof: &FraudProof) -> u32
 /// Appends the payload of a fraud claim.
 pub fn put_fraud(out: &mut Vec<u8>, claim: &FraudClaim)
     requires short { is_unwritten claim.now ≡ false }
-    requires room { HasRoom out.old (length (fraud_payload claim.now)) }
+    requires capacity { HasCapacity out.old (length (fraud_payload claim.now)) }
     ensures appended { out.new.items ≡ out.old.items ++ fraud_payload claim.now }
 {
     append_text(out, claim);
@@ -187,7 +187,7 @@ pub fn put_fraud(out: &mut Vec<u8>, claim: &FraudClaim)
 
 /// Appends the payload of a fraud proof's claim.
 pub fn put_proof(out: &mut Vec<u8>, proof: &FraudProof)
-    requires room { HasRoom out.old (length (fraud_payload proof.now.claim)) }
+    requires capacity { HasCapacity out.old (length (fraud_payload proof.now.claim)) }
     ensures appended { out.new.items ≡ out.old.items ++ fraud_payload proof.now.claim }
 {
     append_text(out, proof);

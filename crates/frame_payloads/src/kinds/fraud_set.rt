@@ -7,7 +7,7 @@ ghost use Rattle.axis_roots.specs.Sets.{is_one_axis, is_along};
 ghost use Rattle.frame_fields.specs.Fields.{many_at, read_items};
 ghost use Rattle.frame_payloads.specs.Payloads.{GivesUnlessFull, Puts};
 ghost use Rattle.frame_payloads.specs.kinds.Fraud.{cell_payload, set_payload, is_cell_placed, fits_form, tag_at, cell_path_at, set_cell_at, with_set_at, set_seen, most_cells, most_set_nodes};
-ghost use Rattle.axis_roots.specs.declared.message.messages.Message.{Message as Sample};
+ghost use Rattle.axis_roots.specs.declared.message.messages.Message.{Message as Sent};
 
 use crate::codec::appending::put_short;
 use crate::codec::outs::{Full, Out};
@@ -105,7 +105,7 @@ pub(crate) fn set_cell_at(accused: Axis, index: u16, bytes: &[u8]) -> Option<(Me
 /// Whether the set shows one of so many cells, and the bytes after them.
 fn after_cells(axis: Axis, index: u16, count: u16, bytes: &[u8]) -> Option<(bool, &[u8])>
     ensures { MatchOption result (many_at (set_cell_at axis index) count bytes.now ≡ None) (λ x.
-        (cells : List Sample) × (many_at (set_cell_at axis index) count bytes.now ≡ Some (cells, x.1.now))
+        (cells : List Sent) × (many_at (set_cell_at axis index) count bytes.now ≡ Some (cells, x.1.now))
         × (x.0 ≡ list_any (is_along axis) cells)) }
 {
     let mut shown = false;
@@ -149,7 +149,7 @@ pub(crate) fn set_fields(payload: &[u8]) -> Option<SetFields<'_>>
 #[tactic(auto, using(crate::proofs::Fields::Many::kept_end))]
 pub(crate) fn fill_cells(list: &mut Vec<Message>, axis: Axis, index: u16, count: u16, bytes: &[u8])
     requires cells { IsSome (many_at (set_cell_at axis index) count bytes.now) }
-    requires room { count ≤ vec_capacity list.old }
+    requires capacity { count ≤ vec_capacity list.old }
     ensures items { list.new.items ≡ read_items (many_at (set_cell_at axis index) count bytes.now) }
     ensures capacity { vec_capacity list.old ≤ vec_capacity list.new }
 {

@@ -2,7 +2,7 @@
 
 ghost use Rattle.std.specs.Prelude.{◌≡◌, ◌*◌, length, None, Some, IfOk, IfSome, IsTrue, MatchOption, ◌+◌, ◌++◌, ◌↔◌, IsSome, false};
 ghost use Rattle.namespace_id.specs.Cells.{is_width};
-ghost use Rattle.namespace_id.specs.Answers.{HasRoom};
+ghost use Rattle.namespace_id.specs.Answers.{HasCapacity};
 ghost use Rattle.frame_payloads.specs.kinds.Header.{roots_of, header_at, header_payload};
 ghost use Rattle.frame_payloads.specs.Payloads.{GivesUnlessFull, IsSize};
 
@@ -66,7 +66,7 @@ pub fn header_size(header: &Header) -> u32
 
 /// Appends the payload of a header.
 pub fn put_header(out: &mut Vec<u8>, header: &Header)
-    requires room { HasRoom out.old (length (header_payload header.now)) }
+    requires capacity { HasCapacity out.old (length (header_payload header.now)) }
     ensures appended { out.new.items ≡ out.old.items ++ header_payload header.now }
 {
     append(out, &header.k.to_be_bytes());

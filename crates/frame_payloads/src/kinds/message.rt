@@ -1,7 +1,7 @@
 //! The payload of a sample.
 
 ghost use Rattle.std.specs.Prelude.{◌≡◌, ◌≤◌, length, vec_len, Some, ◌+◌, ◌++◌, vec_capacity, false};
-ghost use Rattle.namespace_id.specs.Answers.{HasRoom};
+ghost use Rattle.namespace_id.specs.Answers.{HasCapacity};
 ghost use Rattle.frame_payloads.specs.kinds.Message.{message_payload};
 ghost use Rattle.frame_payloads.specs.Payloads.{IsSize};
 
@@ -42,7 +42,7 @@ impl Text for Message {
 
 /// Appends the payload of a sample.
 pub fn put_message(out: &mut Vec<u8>, message: &Message)
-    requires room { HasRoom out.old (length (message_payload message.now)) }
+    requires capacity { HasCapacity out.old (length (message_payload message.now)) }
     ensures appended { out.new.items ≡ out.old.items ++ message_payload message.now }
     ensures len { vec_len out.new ≡ vec_len out.old + length (message_payload message.now) }
     ensures capacity { vec_capacity out.old ≤ vec_capacity out.new }

@@ -3,7 +3,7 @@
 ghost use Rattle.std.specs.Prelude.{◌≡◌, ◌≤◌, ◌<◌, ◌*◌, length, take, drop, None, Some, IfOk, IfSome, IsTrue, MatchOption, true, ◌+◌, ◌++◌, ◌↔◌, IsSome, false, ◌==◌, vec_capacity};
 ghost use Rattle.std.specs.Int.{w16, from_be_bytes};
 ghost use Rattle.namespace_id.specs.Cells.{is_width, are_cells};
-ghost use Rattle.namespace_id.specs.Answers.{HasRoom};
+ghost use Rattle.namespace_id.specs.Answers.{HasCapacity};
 ghost use Rattle.frame_fields.specs.Fields.{cells_of};
 ghost use Rattle.frame_payloads.specs.kinds.Missing.{is_next, are_next, missing_at, missing_payload};
 ghost use Rattle.frame_payloads.specs.Payloads.{GivesUnlessFull, IsSize, IsShort};
@@ -148,7 +148,7 @@ pub fn missing_size(cells: &Cells) -> Option<u32>
 /// Appends the payload of missing cells.
 pub fn put_missing(out: &mut Vec<u8>, cells: &Cells)
     requires few { IsShort (missing_payload cells.now) }
-    requires room { HasRoom out.old (length (missing_payload cells.now)) }
+    requires capacity { HasCapacity out.old (length (missing_payload cells.now)) }
     ensures appended { out.new.items ≡ out.old.items ++ missing_payload cells.now }
     ensures capacity { vec_capacity out.old ≤ vec_capacity out.new }
 {

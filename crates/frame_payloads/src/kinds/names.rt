@@ -3,7 +3,7 @@
 ghost use Rattle.std.specs.Prelude.{◌≡◌, ◌≤◌, length, map, vec_len, None, Some, IfOk, IfSome, MatchOption, ◌+◌, ◌++◌, vec_capacity, IsSome, ◌*◌, false, ◌↔◌, IsTrue};
 ghost use Rattle.std.specs.List.{list_any};
 ghost use Rattle.std.specs.Option.{option_map};
-ghost use Rattle.namespace_id.specs.Answers.{Gives, HasRoom};
+ghost use Rattle.namespace_id.specs.Answers.{Gives, HasCapacity};
 ghost use Rattle.axis_roots.specs.declared.answers.Found.TheVariants.{Range, Absence};
 ghost use Rattle.frame_fields.specs.Fields.{read_items, shares_of};
 ghost use Rattle.namespace_id.specs.Sizes.{most_nodes};
@@ -400,7 +400,7 @@ pub fn names_size(name: &Namespace, answer: &NsAnswer) -> Option<u32>
 pub fn put_range(out: &mut Vec<u8>, row: u16, start: u16, shares: &[Share], nodes: &[Digest])
     requires few { length shares.now ≤ most_shares_shown }
     requires nodes { length nodes.now ≤ most_nodes }
-    requires room { HasRoom out.old
+    requires capacity { HasCapacity out.old
         (length (entry_bytes (record { row = row; found = Range start shares.now nodes.now }))) }
     ensures appended { out.new.items ≡ out.old.items
         ++ entry_bytes (record { row = row; found = Range start shares.now nodes.now }) }
@@ -414,7 +414,7 @@ pub fn put_range(out: &mut Vec<u8>, row: u16, start: u16, shares: &[Share], node
 /// Appends an entry: a row, and the absence that is found in it.
 pub fn put_absence(out: &mut Vec<u8>, row: u16, pos: u16, leaf: &Digest, nodes: &[Digest])
     requires nodes { length nodes.now ≤ most_nodes }
-    requires room { HasRoom out.old
+    requires capacity { HasCapacity out.old
         (length (entry_bytes (record { row = row; found = Absence pos leaf.now nodes.now }))) }
     ensures appended { out.new.items ≡ out.old.items
         ++ entry_bytes (record { row = row; found = Absence pos leaf.now nodes.now }) }
@@ -428,7 +428,7 @@ pub fn put_absence(out: &mut Vec<u8>, row: u16, pos: u16, leaf: &Digest, nodes: 
 /// Appends the payload of a namespace answer.
 pub fn put_names(out: &mut Vec<u8>, name: &Namespace, answer: &NsAnswer)
     requires short { is_long_answer answer.now ≡ false }
-    requires room { HasRoom out.old (length (names_payload name.now answer.now)) }
+    requires capacity { HasCapacity out.old (length (names_payload name.now answer.now)) }
     ensures appended { out.new.items ≡ out.old.items ++ names_payload name.now answer.now }
 {
     write_names(out, name, answer).unwrap();

@@ -2,7 +2,7 @@
 
 ghost use Rattle.std.specs.Prelude.{◌≡◌, ◌≤◌, length, ◌++◌, vec_capacity};
 ghost use Rattle.std.specs.Int.{w64};
-ghost use Rattle.namespace_id.specs.Answers.{Gives, HasRoom};
+ghost use Rattle.namespace_id.specs.Answers.{Gives, HasCapacity};
 ghost use Rattle.frame_fields.specs.Fields.{big_endian_at};
 ghost use Rattle.frame_payloads.specs.kinds.Refusal.{reason_of, refusal_payload, reason_at, refusal_at};
 
@@ -68,7 +68,7 @@ pub fn refusal(payload: &[u8]) -> Option<Refusal>
 
 /// Appends the payload of a refusal.
 pub fn put_refusal(out: &mut Vec<u8>, refusal: Refusal)
-    requires room { HasRoom out.old (length (refusal_payload refusal)) }
+    requires capacity { HasCapacity out.old (length (refusal_payload refusal)) }
     ensures appended { out.new.items ≡ out.old.items ++ refusal_payload refusal }
     ensures capacity { vec_capacity out.old ≤ vec_capacity out.new }
 {

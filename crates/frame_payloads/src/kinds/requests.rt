@@ -1,7 +1,7 @@
 //! The payloads of requests: for the sample of a cell, and for the shares of a namespace.
 
 ghost use Rattle.std.specs.Prelude.{◌≡◌, length, Some, ◌+◌, ◌++◌, false, None};
-ghost use Rattle.namespace_id.specs.Answers.{HasRoom};
+ghost use Rattle.namespace_id.specs.Answers.{HasCapacity};
 ghost use Rattle.frame_payloads.specs.kinds.Requests.{sample_at, request_at, sample_payload, request_payload};
 ghost use Rattle.frame_payloads.specs.Payloads.{IsSize};
 
@@ -53,7 +53,7 @@ pub fn request_size(name: &Namespace) -> u32
 
 /// Appends the payload of a sample request.
 pub fn put_sample(out: &mut Vec<u8>, cell: Cell, axis: Axis)
-    requires room { HasRoom out.old (length (sample_payload cell axis)) }
+    requires capacity { HasCapacity out.old (length (sample_payload cell axis)) }
     ensures appended { out.new.items ≡ out.old.items ++ sample_payload cell axis }
 {
     append_text(out, &cell);

@@ -1,7 +1,7 @@
 //! The payload of a root proof. Nothing here takes memory.
 
 ghost use Rattle.std.specs.Prelude.{◌≡◌, length, Some, ◌+◌, ◌++◌, false, None};
-ghost use Rattle.namespace_id.specs.Answers.{HasRoom};
+ghost use Rattle.namespace_id.specs.Answers.{HasCapacity};
 ghost use Rattle.frame_payloads.specs.kinds.Rooted.{rooted_payload, rooted_at};
 ghost use Rattle.frame_payloads.specs.Payloads.{IsSize};
 
@@ -57,7 +57,7 @@ pub fn rooted_size(proof: &RootedMessage) -> u32
 
 /// Appends the payload of a root proof.
 pub fn put_rooted(out: &mut Vec<u8>, proof: &RootedMessage)
-    requires room { HasRoom out.old (length (rooted_payload proof.now)) }
+    requires capacity { HasCapacity out.old (length (rooted_payload proof.now)) }
     ensures appended { out.new.items ≡ out.old.items ++ rooted_payload proof.now }
 {
     append(out, &proof.k.to_be_bytes());

@@ -2,7 +2,7 @@
 
 ghost use Rattle.std.specs.Prelude.{◌≡◌, ◌*◌, length, vec_len, None, Some, IfOk, IfSome, IsTrue, MatchOption, ◌+◌, ◌++◌, ◌↔◌, IsSome, false};
 ghost use Rattle.namespace_id.specs.Cells.{is_width};
-ghost use Rattle.namespace_id.specs.Answers.{HasRoom};
+ghost use Rattle.namespace_id.specs.Answers.{HasCapacity};
 ghost use Rattle.frame_fields.specs.Fields.{shares_of};
 ghost use Rattle.frame_payloads.specs.kinds.Square.{square_at, square_payload};
 ghost use Rattle.frame_payloads.specs.Payloads.{GivesUnlessFull, IsSize};
@@ -60,7 +60,7 @@ pub fn square_size(square: &Square) -> u32
 
 /// Appends the payload of a square.
 pub fn put_square(out: &mut Vec<u8>, square: &Square)
-    requires room { HasRoom out.old (length (square_payload square.now)) }
+    requires capacity { HasCapacity out.old (length (square_payload square.now)) }
     ensures appended { out.new.items ≡ out.old.items ++ square_payload square.now }
 {
     append(out, &square.k.to_be_bytes());

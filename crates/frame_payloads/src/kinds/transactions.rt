@@ -1,7 +1,7 @@
 //! The payload of transactions: judged where it lies, then read; and written.
 
 ghost use Rattle.std.specs.Prelude.{◌≡◌, ◌++◌, ◌↔◌, false, length, Some, None, IfSome, IsSome, IsTrue, MatchOption};
-ghost use Rattle.namespace_id.specs.Answers.{HasRoom};
+ghost use Rattle.namespace_id.specs.Answers.{HasCapacity};
 ghost use Rattle.frame_fields.specs.Fields.{read_items};
 ghost use Rattle.frame_payloads.specs.Payloads.{GivesUnlessFull, IsSize, IsShort};
 ghost use Rattle.frame_payloads.specs.kinds.Transactions.{transactions_at, transactions_payload};
@@ -60,7 +60,7 @@ pub fn transactions_size(units: &[Unit]) -> Option<u32>
 /// Appends the payload of transactions.
 pub fn put_transactions(out: &mut Vec<u8>, units: &[Unit])
     requires few { IsShort (transactions_payload units.now) }
-    requires room { HasRoom out.old (length (transactions_payload units.now)) }
+    requires capacity { HasCapacity out.old (length (transactions_payload units.now)) }
     ensures appended { out.new.items ≡ out.old.items ++ transactions_payload units.now }
 {
     put_list(out, units).unwrap();

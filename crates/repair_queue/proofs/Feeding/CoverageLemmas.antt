@@ -12,9 +12,9 @@ use Rattle.data_header.specs.Headers.{Roots}
 use Rattle.axis_roots.specs.declared.message.messages.Message.{Message}
 use Rattle.repair_queue.specs.declared.boards.Board.{Board}
 use Rattle.repair_queue.specs.declared.tools.Tools.{Tools}
-use Rattle.repair_queue.specs.declared.ending.Ended.{Ended}
-use Rattle.repair_queue.specs.declared.ending.Ended.TheVariants as ended
-use Rattle.repair_queue.specs.declared.fed.SessionState.TheVariants as state
+use Rattle.repair_queue.specs.declared.ending.Ending.{Ending}
+use Rattle.repair_queue.specs.declared.ending.Ending.TheVariants as ended
+use Rattle.repair_queue.specs.declared.sessions.SessionState.TheVariants as state
 use Rattle.repair_queue.specs.Closures.{Half}
 use Rattle.repair_queue.specs.OpenBoards.{IsOpenBoard}
 use Rattle.repair_queue.specs.SessionParts.{SessionParts, message_kept, marks_of, SessionStands}
@@ -24,7 +24,7 @@ use Rattle.repair_queue.proofs.Facts.SessionLawLemmas.{open_stands_open}
 use Rattle.repair_queue.proofs.Facts.VerdictLemmas.{all_decided}
 
 -- the marks of an open board are for the header's width
-pub open_marks : (header : Roots) (b : Board) (tools : Tools) (end : Option Ended) → IsOpenBoard header b tools end → state_by (end_of end) ≡ state.Open
+pub open_marks : (header : Roots) (b : Board) (tools : Tools) (end : Option Ending) → IsOpenBoard header b tools end → state_by (end_of end) ≡ state.Open
     → b.marks.k ≡ header.k
 open_marks header b tools None held is = held.0.parts.marks_width ∙ sym held.0.width
 open_marks header b tools (Some (ended.Fraud proof)) held is = absurd cc

@@ -8,7 +8,7 @@ use Rattle.axis_roots.specs.declared.message.messages.Message.{Message}
 use Rattle.repair_queue.specs.declared.boards.Board.{Board}
 use Rattle.repair_queue.specs.declared.counts.Counts.{Counts}
 use Rattle.repair_queue.specs.declared.tools.Tools.{Tools}
-use Rattle.repair_queue.specs.declared.ending.Ended.{Ended}
+use Rattle.repair_queue.specs.declared.ending.Ending.{Ending}
 use Rattle.repair_queue.specs.Counts.{Numbers, count_of, pending}
 use Rattle.repair_queue.specs.Boards.{given_of, decided_of, AreCounted, AreWaiting, AreAtRest, IsGood, HoldsFor}
 use Rattle.repair_queue.specs.Tools.{AreTools}
@@ -22,13 +22,13 @@ none_is None b test is = refl
 none_is (Some y) b test is = absurd (let e : true ≡ false = sym test ∙ is in cc)
 
 -- what ends deciding ends all
-pub ends_drains : (header : Roots) (s mid t : Board) (tools : Tools) (result : Option Ended) (b : Bool) → b ≡ is_some result → b ≡ true
+pub ends_drains : (header : Roots) (s mid t : Board) (tools : Tools) (result : Option Ending) (b : Bool) → b ≡ is_some result → b ≡ true
     → ((ms : List Message) → HoldsFor header ms s → HoldsFor header ms mid) → DecidesLine header mid t tools result → Drains header s t tools result
 ends_drains header s mid t tools (Some ended) b test is holds decides = λ ms stand. decides ms (holds ms stand)
 ends_drains header s mid t tools None b test is holds decides = absurd (let e : false ≡ true = sym test ∙ is in cc)
 
 -- a row or column that was decided
-pub decided_none : (header : Roots) (s t : Board) (tools : Tools) (result : Option Ended) (b : Bool) → b ≡ is_some result → b ≡ false → DecidesLine header s t tools result
+pub decided_none : (header : Roots) (s t : Board) (tools : Tools) (result : Option Ending) (b : Bool) → b ≡ is_some result → b ≡ false → DecidesLine header s t tools result
     → IsGood header t × AreTools header.k tools × ((ms : List Message) → HoldsFor header ms s → HoldsFor header ms t)
 decided_none header s t tools None b test is decides = decides
 decided_none header s t tools (Some ended) b test is decides = absurd (let e : true ≡ false = sym test ∙ is in cc)
@@ -70,13 +70,13 @@ rested header b good none =
     (subst (λ (l : List (Axis × ℕ)). AreWaiting header.k (decided_of b) (count_of b.counts) l) none good.queued)
 
 -- a sample that was taken in
-pub taken_none : (header : Roots) (s t : Board) (tools : Tools) (m : Message) (result : Option Ended) (b : Bool) → b ≡ is_some result → b ≡ false
+pub taken_none : (header : Roots) (s t : Board) (tools : Tools) (m : Message) (result : Option Ending) (b : Bool) → b ≡ is_some result → b ≡ false
     → TakesMessage header s t tools m result → IsKeptOn header s t m × AreTools header.k tools
 taken_none header s t tools m None b test is takes = takes
 taken_none header s t tools m (Some ended) b test is takes = absurd (let e : true ≡ false = sym test ∙ is in cc)
 
 -- and what it lets decide
-pub steps_of : (header : Roots) (s mid t : Board) (tools : Tools) (m : Message) (result : Option Ended) → IsKeptOn header s mid m → Drains header mid t tools result
+pub steps_of : (header : Roots) (s mid t : Board) (tools : Tools) (m : Message) (result : Option Ending) → IsKeptOn header s mid m → Drains header mid t tools result
     → Steps header s t tools m result
 steps_of header s mid t tools m None kept drains = (drains.0, drains.1, drains.2, λ ms stand. drains.3 (ms ++ m ∷ []) (kept.1 ms stand))
 steps_of header s mid t tools m (Some ended) kept drains = λ ms stand. drains (ms ++ m ∷ []) (kept.1 ms stand)

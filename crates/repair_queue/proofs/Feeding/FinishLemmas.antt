@@ -17,9 +17,9 @@ use Rattle.axis_roots.proofs.Grids.NumberLemmas.{inside}
 use Rattle.axis_roots.proofs.Grids.LaidLemmas.{original-inside}
 use Rattle.repair_queue.specs.declared.boards.Board.{Board}
 use Rattle.repair_queue.specs.declared.tools.Tools.{Tools}
-use Rattle.repair_queue.specs.declared.ending.Ended.{Ended}
-use Rattle.repair_queue.specs.declared.ending.Ended.TheVariants as ended
-use Rattle.repair_queue.specs.declared.fed.SessionState.TheVariants as state
+use Rattle.repair_queue.specs.declared.ending.Ending.{Ending}
+use Rattle.repair_queue.specs.declared.ending.Ending.TheVariants as ended
+use Rattle.repair_queue.specs.declared.sessions.SessionState.TheVariants as state
 use Rattle.repair_queue.specs.Closures.{Half, Fact}
 use Rattle.repair_queue.specs.Settled.{IsSettled}
 use Rattle.repair_queue.specs.Verdicts.{IsWhole, IsMissing}
@@ -112,14 +112,14 @@ module _ (header : Roots) (b : Board) (good : IsGood header b) (rest : AreAtRest
         (original_fact cell within))
 
 -- a list of the unknown cells of a session that nothing ended is for the header's width
-pub left_width : (header : Roots) (b : Board) (tools : Tools) (end : Option Ended) → IsOpenBoard header b tools end → state_by (end_of end) ≡ state.Open
+pub left_width : (header : Roots) (b : Board) (tools : Tools) (end : Option Ending) → IsOpenBoard header b tools end → state_by (end_of end) ≡ state.Open
     → (cells : CellList) → AreNotFound b cells → cells.k ≡ header.k
 left_width header b tools None held is cells are = are.width ∙ sym held.0.width
 left_width header b tools (Some (ended.Fraud proof)) held is cells are = absurd cc
 left_width header b tools (Some (ended.Clash clash)) held is cells are = absurd cc
 
 -- and these cells are those that aren't recoverable
-pub held_left : (header : Roots) (b : Board) (tools : Tools) (end : Option Ended) → IsOpenBoard header b tools end → state_by (end_of end) ≡ state.Open
+pub held_left : (header : Roots) (b : Board) (tools : Tools) (end : Option Ending) → IsOpenBoard header b tools end → state_by (end_of end) ≡ state.Open
     → (cells : CellList) → AreNotFound b cells → (ms : List Message) → KeepsFor header ms b end → AreLeft header ms cells
 held_left header b tools None held is cells are ms stand = left_over header b held.0 held.2 ms stand cells are
 held_left header b tools (Some (ended.Fraud proof)) held is cells are ms stand = absurd cc

@@ -20,7 +20,7 @@ use Rattle.axis_roots.proofs.Grids.AxisLemmas.{get_or-along, length-along, cell_
 use Rattle.axis_roots.proofs.Grids.NumberLemmas.{index-lt, position-lt}
 use Rattle.befp_maker.specs.Conflicts.{IsLineOf, IsAgainst}
 use Rattle.repair_queue.specs.declared.boards.Board.{Board}
-use Rattle.repair_queue.specs.declared.ending.Ended.{Ended}
+use Rattle.repair_queue.specs.declared.ending.Ending.{Ending}
 use Rattle.repair_queue.specs.Closures.{Fact, shown}
 use Rattle.repair_queue.specs.Settled.{along}
 use Rattle.repair_queue.specs.Lines.{AreFacts}
@@ -81,7 +81,7 @@ module _ (header : Roots) (b : Board) (good : IsGood header b) (message : Proved
   }
 
   -- which ends the session
-  pub taken_ends : (ended : Ended) → ((ms : List Message) → AreFacts header ms axis i line → Fact header ms (kept_message message).cell (kept_message message).share
+  pub taken_ends : (ended : Ending) → ((ms : List Message) → AreFacts header ms axis i line → Fact header ms (kept_message message).cell (kept_message message).share
       → IsEnd header ms ended) → (ms : List Message) → HoldsFor header ms b → IsEnd header (ms ++ kept_message message ∷ []) ended
   taken_ends ended ends ms stand =
       let mine : Message = kept_message message in

@@ -21,8 +21,8 @@ use Rattle.axis_roots.proofs.Grids.NumberLemmas.{position-lt, index-lt}
 use Rattle.axis_roots.proofs.Grids.WrittenLemmas.{on_axis_in_square}
 use Rattle.repair_queue.specs.declared.boards.Board.{Board}
 use Rattle.repair_queue.specs.declared.tools.Tools.{Tools}
-use Rattle.repair_queue.specs.declared.ending.Ended.{Ended}
-use Rattle.repair_queue.specs.declared.ending.Ended.TheVariants as ended
+use Rattle.repair_queue.specs.declared.ending.Ending.{Ending}
+use Rattle.repair_queue.specs.declared.ending.Ending.TheVariants as ended
 use Rattle.repair_queue.specs.declared.verdict.Verdict.{Verdict}
 use Rattle.repair_queue.specs.Closures.{Fact, shown, IsDecided}
 use Rattle.repair_queue.specs.Settled.{IsLineSettled}
@@ -61,7 +61,7 @@ of_some : (slot : Option Proved) (m : Message) → certified_message slot ≡ So
 of_some (Some kept) m e = (kept, refl, cc)
 of_some None m e = absurd cc
 
-module _ (header : Roots) (b : Board) (good : IsGood header b) (end : Option Ended) where
+module _ (header : Roots) (b : Board) (good : IsGood header b) (end : Option Ending) where
   -- the sample that is seen of a cell is that of the certificate that is kept
   pub message_here : (axis : Axis) (cell : Cell) → message_kept (parts_by header b end) axis cell ≡ certified_message (given_of b axis cell)
   message_here axis cell =
@@ -83,7 +83,7 @@ module _ (header : Roots) (b : Board) (good : IsGood header b) (end : Option End
 
 module _ (header : Roots) (b : Board) (good : IsGood header b) (ms : List Message) where
   -- what the board keeps stands for samples for which the session stands
-  pub stands_holds : (end : Option Ended) → StandsOpen (parts_by header b end) ms → HoldsFor header ms b
+  pub stands_holds : (end : Option Ending) → StandsOpen (parts_by header b end) ms → HoldsFor header ms b
   stands_holds end stand = record {
     fed = λ axis cell kept off held. (stand.kept axis cell (kept_message kept) off (message_here header b good end axis cell ∙ ap certified_message held)).listed;
     facts = λ axis i pos hi hp on.
@@ -134,7 +134,7 @@ module _ (header : Roots) (b : Board) (good : IsGood header b) (ms : List Messag
         })
 
     -- a share that is shown is kept
-    keeps_share : (end : Option Ended) (m : Message) → is_lined (decided_of b) m.cell ≡ false → Contains ms m → IsProved header m
+    keeps_share : (end : Option Ending) (m : Message) → is_lined (decided_of b) m.cell ≡ false → Contains ms m → IsProved header m
         → KeepsShare (parts_by header b end) m.cell m.share
     keeps_share end m off at proved =
         let there = hold.shown m at proved off in
@@ -142,7 +142,7 @@ module _ (header : Roots) (b : Board) (good : IsGood header b) (ms : List Messag
         (there.0, kept_message shows.kept, message_here header b good end there.0 m.cell ∙ ap certified_message shows.held, shows.share_is)
 
     -- the session stands for the samples for which its board's contents do
-    pub holds_stands : (end : Option Ended) → StandsOpen (parts_by header b end) ms
+    pub holds_stands : (end : Option Ending) → StandsOpen (parts_by header b end) ms
     holds_stands end = record {
       known = λ cell inside. (
         (λ is. found_half header ms (given_of b) (decided_of b) (shared_of b) good.sound hold cell inside (sym (known_here header b good end cell) ∙ is)),
@@ -163,14 +163,14 @@ module _ (header : Roots) (b : Board) (good : IsGood header b) (ms : List Messag
     }
 
 -- a session that stands for samples keeps what stands for them
-pub stands_keeps : (header : Roots) (b : Board) (tools : Tools) (end : Option Ended) → IsOpenBoard header b tools end → (ms : List Message)
+pub stands_keeps : (header : Roots) (b : Board) (tools : Tools) (end : Option Ending) → IsOpenBoard header b tools end → (ms : List Message)
     → SessionStands (parts_by header b end) ms → KeepsFor header ms b end
 stands_keeps header b tools None held ms stand = stands_holds header b held.0 ms None stand
 stands_keeps header b tools (Some (ended.Fraud proof)) held ms stand = stand
 stands_keeps header b tools (Some (ended.Clash pair)) held ms stand = stand
 
 -- and the other way round
-pub keeps_stands : (header : Roots) (b : Board) (tools : Tools) (end : Option Ended) → IsOpenBoard header b tools end → (ms : List Message)
+pub keeps_stands : (header : Roots) (b : Board) (tools : Tools) (end : Option Ending) → IsOpenBoard header b tools end → (ms : List Message)
     → KeepsFor header ms b end → SessionStands (parts_by header b end) ms
 keeps_stands header b tools None held ms keeps = holds_stands header b held.0 ms held.2 keeps None
 keeps_stands header b tools (Some (ended.Fraud proof)) held ms keeps = keeps
@@ -191,7 +191,7 @@ new_open header b tools k width wide good are empty undecided =
     (held, keeps_stands header b tools None held [] (nothing_stands header (given_of b) (decided_of b) (shared_of b) empty undecided))
 
 -- after a step it stands for one sample more
-pub step_stands : (header : Roots) (old new : Board) (before after : Tools) (end result : Option Ended) (m : Message) → is_some end ≡ false
+pub step_stands : (header : Roots) (old new : Board) (before after : Tools) (end result : Option Ending) (m : Message) → is_some end ≡ false
     → IsOpenBoard header old before end → Steps header old new after m result → (ms : List Message) → SessionStands (parts_by header old end) ms
     → SessionStands (parts_by header new result) (ms ++ m ∷ [])
 step_stands header old new before after end result m is held steps ms stand =
@@ -199,23 +199,23 @@ step_stands header old new before after end result m is held steps ms stand =
     (step_keeps header old new after m result steps ms (open_stands header ms old end is (stands_keeps header old before end held ms stand)))
 
 -- so does one that something ended before
-pub ended_stands : (header : Roots) (b : Board) (tools : Tools) (end : Option Ended) (m : Message) → is_some end ≡ true
+pub ended_stands : (header : Roots) (b : Board) (tools : Tools) (end : Option Ending) (m : Message) → is_some end ≡ true
     → IsOpenBoard header b tools end → (ms : List Message) → SessionStands (parts_by header b end) ms → SessionStands (parts_by header b end) (ms ++ m ∷ [])
 ended_stands header b tools end m is held ms stand =
     keeps_stands header b tools end held (ms ++ m ∷ []) (ended_keeps header ms m b end is (stands_keeps header b tools end held ms stand))
 
 -- what ended a session is an answer
-ended_verdict : (header : Roots) (ms : List Message) (end : Ended) (verdict : Verdict) → IsEnd header ms end → EndsAs end verdict
+ended_verdict : (header : Roots) (ms : List Message) (end : Ending) (verdict : Verdict) → IsEnd header ms end → EndsAs end verdict
     → IsVerdict header ms (verdict_parts verdict)
 ended_verdict header ms (ended.Fraud proof) verdict is as_it = subst (λ (v : VerdictParts). IsVerdict header ms v) (sym as_it) is
 ended_verdict header ms (ended.Clash pair) verdict is as_it = subst (λ (v : VerdictParts). IsVerdict header ms v) (sym as_it) is
 
-module _ (header : Roots) (b : Board) (tools : Tools) (end : Option Ended) (s : SessionParts) (view : parts_by header b end ≡ s)
+module _ (header : Roots) (b : Board) (tools : Tools) (end : Option Ending) (s : SessionParts) (view : parts_by header b end ≡ s)
     (held : IsOpenBoard header b tools end) (ms : List Message) (stand : SessionStands s ms) where
   -- what is kept where this ended it
-  finish_keeps : (other : Option Ended) → end ≡ other → KeepsFor header ms b other
+  finish_keeps : (other : Option Ending) → end ≡ other → KeepsFor header ms b other
   finish_keeps other is =
-      subst (λ (e : Option Ended). KeepsFor header ms b e) is
+      subst (λ (e : Option Ending). KeepsFor header ms b e) is
       (stands_keeps header b tools end held ms (subst (λ (x : SessionParts). SessionStands x ms) (sym view) stand))
 
   finish_header : (v : VerdictParts) → IsVerdict header ms v → IsVerdict s.header ms v
@@ -226,5 +226,5 @@ module _ (header : Roots) (b : Board) (tools : Tools) (end : Option Ended) (s : 
   finish_open v none answers = finish_header v (answers (finish_keeps None none))
 
   -- where something did, that is
-  pub finish_ended : (e : Ended) (verdict : Verdict) → end ≡ Some e → EndsAs e verdict → IsVerdict s.header ms (verdict_parts verdict)
+  pub finish_ended : (e : Ending) (verdict : Verdict) → end ≡ Some e → EndsAs e verdict → IsVerdict s.header ms (verdict_parts verdict)
   finish_ended e verdict some as_it = finish_header (verdict_parts verdict) (ended_verdict header ms e verdict (finish_keeps (Some e) some) as_it)

@@ -17,7 +17,7 @@ use Rattle.axis_roots.specs.Lines.{blank, entry, cell_on}
 use Rattle.axis_roots.proofs.Grids.WrittenLemmas.{on_axis_in_square}
 use Rattle.repair_queue.specs.declared.boards.Board.{Board}
 use Rattle.repair_queue.specs.declared.tools.Tools.{Tools}
-use Rattle.repair_queue.specs.declared.ending.Ended.{Ended}
+use Rattle.repair_queue.specs.declared.ending.Ending.{Ending}
 use Rattle.repair_queue.specs.Closures.{AreChosen, Fact, rebuilt}
 use Rattle.repair_queue.specs.Slots.{Kept, Flags}
 use Rattle.repair_queue.specs.Lines.{AreFacts}
@@ -69,7 +69,7 @@ module _ (header : Roots) (ms : List Message) (slot : Kept) (flag : Flags) (shar
       (subst (Fact header ms (cell_on axis i (get_or known j 0))) (sym (share ∙ gathered.share j h)) fact)) below
 
 -- what settles a row or column of facts decides it
-pub settles_decides : (header : Roots) (s t : Board) (tools : Tools) (axis : Axis) (i : ℕ) (line : List Share) (result : Option Ended)
+pub settles_decides : (header : Roots) (s t : Board) (tools : Tools) (axis : Axis) (i : ℕ) (line : List Share) (result : Option Ending)
     → ((ms : List Message) → HoldsFor header ms s → AreFacts header ms axis i line) → SettlesLine header s t tools axis i line result → DecidesLine header s t tools result
 settles_decides header s t tools axis i line None facts settles = (settles.0, settles.1, λ ms stand. settles.2 ms (facts ms stand) stand)
 settles_decides header s t tools axis i line (Some ended) facts settles = λ ms stand. settles ms (facts ms stand) stand

@@ -9,7 +9,7 @@ use Rattle.axis_roots.specs.declared.message.proved.Proved.{Proved}
 use Rattle.axis_roots.specs.Proved.{kept_message}
 use Rattle.repair_queue.specs.Slots.{Kept, IsPut}
 use Rattle.repair_queue.specs.Places.{cell_place, IsPlaced}
-use Rattle.repair_queue.specs.Pools.{PoolParts, slots_by, slot_in, samples_of_row, samples_of_all, AreFree, IsStored, AreAtHome, IsPool, HasPlace, IsRoomy}
+use Rattle.repair_queue.specs.Pools.{PoolParts, slots_by, slot_in, samples_of_row, samples_of_all, AreFree, IsStored, AreAtHome, IsPool, HasPlace, HasFullCapacity}
 use Rattle.repair_queue.proofs.Places.PlaceLemmas.{same_slot}
 use Rattle.repair_queue.proofs.Places.PutLemmas.{put_cases}
 use Rattle.repair_queue.proofs.Counting.SampleLemmas.{sum_below-lt, no_samples, no_samples_of_all, all_more, rows_few}
@@ -19,12 +19,12 @@ all_few : (k : ℕ) (slot : Kept) → 0 < k → ((row : ℕ) → row < 2 * k →
 all_few k slot some few =
     let all : samples_of_all k slot + 2 * k ≤ 2 * k * (2 * k) = sum_below-lt (samples_of_row k slot) (2 * k) (2 * k) few in omega arith
 
-pub room_left : (p : PoolParts) (room : ℕ) → IsPool p.places.k (cell_place p.places) p.given p.free room → IsRoomy p → HasPlace p
+pub room_left : (p : PoolParts) (room : ℕ) → IsPool p.places.k (cell_place p.places) p.given p.free room → HasFullCapacity p → HasPlace p
 room_left p room pool roomy none = omega (arith, none, all_few p.places.k (slot_in p) (is_width-pos p.places.k pool.width) pool.few, pool.used, roomy)
 
 -- the list of samples may have such capacity under another width that is the same
-pub stays_roomy : (k n room now : ℕ) → n ≡ k → room ≤ now → 2 * k * (2 * k) ≤ room → 2 * n * (2 * n) ≤ now
-stays_roomy k n room now same more roomy = subst (λ (m : ℕ). 2 * m * (2 * m) ≤ now) (sym same) (omega arith)
+pub keeps_capacity : (k n room now : ℕ) → n ≡ k → room ≤ now → 2 * k * (2 * k) ≤ room → 2 * n * (2 * n) ≤ now
+keeps_capacity k n room now same more roomy = subst (λ (m : ℕ). 2 * m * (2 * m) ≤ now) (sym same) (omega arith)
 
 module _ (k : ℕ) (old new : Axis → Cell → ℕ) (given made : List (Option Proved)) (free left : List ℕ) (room place : ℕ) (kept : Proved)
     (pool : IsPool k old given free room) (within : is_in_square k (kept_message kept).cell ≡ true) (stored : IsStored given made free left kept place)
@@ -99,7 +99,7 @@ module _ (k : ℕ) (old new : Axis → Cell → ℕ) (given made : List (Option 
           | inl count ↦ omega (arith, count, pool.most)
           | inr none ↦ omega (arith, none, used_now, all_few k (slots_by made new) (is_width-pos k pool.width) rows_now)
         ];
-        free_room = omega (arith, same, pool.free_room);
+        free_capacity = omega (arith, same, pool.free_capacity);
       })
 
 -- ---- at the start
@@ -115,7 +115,7 @@ nothing_kept given place items axis cell = ap (λ (l : List (Option Proved)). ge
 -- a pool without samples
 pub new_pool : (k n : ℕ) (place : Axis → Cell → ℕ) (given : List (Option Proved)) (free : List ℕ) (room : ℕ) → n ≡ k → is_width k ≡ true
     → ((axis : Axis) (cell : Cell) → place axis cell ≡ 0) → given ≡ None ∷ [] → free ≡ [] → 2 * k * (2 * k) ≤ room → IsPool n place given free room
-new_pool k n place given free room same width zeros items none free_room =
+new_pool k n place given free room same width zeros items none free_capacity =
     let empty : (axis : Axis) (cell : Cell) → slots_by given place axis cell ≡ None = nothing_kept given place items in
     let one : length given ≡ 1 = ap length items in
     let no_free : length free ≡ 0 = ap length none in
@@ -135,5 +135,5 @@ new_pool k n place given free room same width zeros items none free_room =
       used = omega (arith, one, no_free, no_samples_of_all k (slots_by given place) empty);
       few = rows;
       most = omega (arith, one, all_few k (slots_by given place) some rows);
-      free_room = free_room;
+      free_capacity = free_capacity;
     })

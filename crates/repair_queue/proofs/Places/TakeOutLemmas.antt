@@ -148,7 +148,7 @@ module _ (k : ℕ) (old new : Axis → Cell → ℕ) (given : List (Option Prove
         used = omega (arith, long, length-append free (place ∷ []), pool.used, all_more k (slots_by left new) (slots_by given old) axis cell kept put_back within out_emptied.here);
         few = fewer;
         most = omega (arith, long, pool.most);
-        free_room = omega (arith, fits, pool.free_room);
+        free_capacity = omega (arith, fits, pool.free_capacity);
       }))
 
 -- what is read at the place of a cell is what its slot holds

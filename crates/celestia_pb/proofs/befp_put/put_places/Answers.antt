@@ -5,8 +5,8 @@ use Rattle.celestia_pb.proofs.befp_put.put_places.Goals as goal
 -- a place has no more bytes than are left
 pub put_place-requires : goal.put_place-requires
 put_place-requires c = record {
-  room = write_room c.args.axis (2 * c.args.k) c.loop-place.place c.loop-place.rest.now c.args.out.now c.loop-place.out _ _ c.loop-place.invariant
-      c.loop-place-test.true c.requires.room;
+  capacity = write_room c.args.axis (2 * c.args.k) c.loop-place.place c.loop-place.rest.now c.args.out.now c.loop-place.out _ _ c.loop-place.invariant
+      c.loop-place-test.true c.requires.capacity;
 }
 
 -- one more was appended

@@ -1,7 +1,7 @@
 use Rattle.std.proofs.Common.{◌≡◌, ◌≤◌, ◌+◌, ◌*◌, ◌++◌, None, length, vec_capacity}
 use Rattle.std.specs.List.{flat_map}
 use Rattle.namespace_id.specs.declared.namespaces.Namespace.{Namespace}
-use Rattle.namespace_id.specs.Answers.{HasRoom}
+use Rattle.namespace_id.specs.Answers.{HasCapacity}
 use Rattle.da_attending.specs.Attended.{height_lines}
 use Rattle.da_attending.specs.Attenders.{unknown}
 use Rattle.da_attending.proofs.saying.put_missing.Given as goal
@@ -13,7 +13,7 @@ invariant-loop-name l = record {
       ≡ l.fn.text.items ++ flat_map (λ (n : Namespace). height_lines l.number n None) (unknown l.known.keys l.names);
   counted : l.count + length (unknown l.known.keys l.rest) ≡ length (unknown l.known.keys l.names);
   few : l.count + length l.rest ≤ length l.names;
-  room : HasRoom l.text (105 * length l.rest);
+  room : HasCapacity l.text (105 * length l.rest);
   capacity : vec_capacity l.fn.text ≤ vec_capacity l.text;
 }
 

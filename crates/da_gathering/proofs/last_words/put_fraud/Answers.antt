@@ -7,4 +7,4 @@ pub put_proof-requires : goal.put_proof-requires
 put_proof-requires c =
     let none : vec_len c.args.text.now ≡ 0 = c.args.text.now.ok.0 ∙ ap length c.requires.empty in
     let few = claim_few c.args.proof.now.claim c.proof_law.ensures.claim c.proof_law.ensures.plain in
-    record { room = omega (arith, none, c.put_head.ensures.len, c.put_head.ensures.capacity, c.requires.room, few) }
+    record { capacity = omega (arith, none, c.put_head.ensures.len, c.put_head.ensures.capacity, c.requires.capacity, few) }

@@ -11,4 +11,4 @@ put_square-requires c =
     let none : vec_len c.args.text.now ≡ 0 = c.args.text.now.ok.0 ∙ ap length c.requires.empty in
     let is : IsSquare square = subst IsSquare c.square.view_is c.square.invariant in
     let shares : AreShares square.shares = subst AreShares (c.deref.ensures.value ∙ ap (λ (s : SquareShares). s.shares) c.square.view_is) c.shares_law.ensures in
-    record { room = omega (arith, none, c.put_head.ensures.len, c.put_head.ensures.capacity, c.requires.room, square_few square is shares) }
+    record { capacity = omega (arith, none, c.put_head.ensures.len, c.put_head.ensures.capacity, c.requires.capacity, square_few square is shares) }

@@ -6,9 +6,9 @@ use Rattle.da_talk.proofs.frames.put_cells.Goals as goal
 -- it has no more bytes than are left
 pub put_cell-requires : goal.put_cell-requires
 put_cell-requires c = record {
-  room = put_room cell_bytes c.args.cells.now c.loop-cell.cell-index _ c.loop-cell-test.true
+  capacity = put_room cell_bytes c.args.cells.now c.loop-cell.cell-index _ c.loop-cell-test.true
       (get_or_default c.args.cells.now c.loop-cell.cell-index (record { row = 0; col = 0 }) _ c.loop-cell-test.true)
-      c.args.text.now c.loop-cell.text _ _ c.loop-cell.invariant c.requires.room;
+      c.args.text.now c.loop-cell.text _ _ c.loop-cell.invariant c.requires.capacity;
 }
 
 -- one more was appended

@@ -24,9 +24,9 @@ pub put_cells-requires : goal.put_cells-requires
 put_cells-requires c =
     let cells : CellList = record { k = c.args.k; list = c.args.cells.now } in
     record {
-      room = omega (
+      capacity = omega (
         arith,
-        c.requires.room,
+        c.requires.capacity,
         c.cells_laws.ensures.count c.args.k c.args.cells.now c.requires.cells,
         length-missing cells,
         c.put_head.ensures.len,

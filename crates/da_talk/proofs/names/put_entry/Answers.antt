@@ -6,13 +6,13 @@ use Rattle.da_talk.proofs.NamesLemmas.{range_few, absence_few}
 use Rattle.da_talk.proofs.names.put_entry.Goals as goal
 
 -- a range has no more shares than the row
-pub put_range-requires-clause-room : goal.put_range-requires-clause-room
-put_range-requires-clause-room c =
+pub put_range-requires-clause-capacity : goal.put_range-requires-clause-capacity
+put_range-requires-clause-capacity c =
     let few : length c.shares-shares.result.now ≤ c.args.held.now.k = omega (arith, ap length c.shares-shares.ensures, length-take c.in-Range.count (drop c.in-Range.start (axis_shares c.find.new.self.k c.find.new.self.grid Row c.args.row)), c.in-Range.ensures.columns.1) in
     omega (
       arith,
       range_few c.args.held.now.k c.args.row c.in-Range.start c.shares-shares.result.now c.nodes-path.result.now c.shares_law.ensures c.digests_law.ensures few c.nodes-path.ensures.bound,
-      c.requires.room,
+      c.requires.capacity,
     )
 
 pub returns-in-Range-clause-len : goal.returns-in-Range-clause-len
@@ -25,13 +25,13 @@ returns-in-Range-clause-len c =
     )
 
 -- an absence is short
-pub put_absence-requires-clause-room : goal.put_absence-requires-clause-room
-put_absence-requires-clause-room c =
+pub put_absence-requires-clause-capacity : goal.put_absence-requires-clause-capacity
+put_absence-requires-clause-capacity c =
     omega (
       arith,
       absence_few c.args.held.now.k c.args.row c.in-Absence.pos c.in-Absence.leaf c.nodes-path-in-Absence.result.now c.digest_law.ensures c.digests_law-in-Absence.ensures c.requires.row
           c.nodes-path-in-Absence.ensures.bound,
-      c.requires.room,
+      c.requires.capacity,
     )
 
 pub returns-in-Absence-clause-len : goal.returns-in-Absence-clause-len

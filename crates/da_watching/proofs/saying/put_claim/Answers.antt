@@ -6,8 +6,8 @@ use Rattle.da_watching.proofs.ClaimLengths.{claim_size}
 use Rattle.da_watching.proofs.saying.put_claim.Goals as goal
 
 -- a claim that is accepted has no longer payload than any
-pub put_fraud-requires-clause-room : goal.put_fraud-requires-clause-room
-put_fraud-requires-clause-room c =
+pub put_fraud-requires-clause-capacity : goal.put_fraud-requires-clause-capacity
+put_fraud-requires-clause-capacity c =
     let accepted = c.claim-claim.ensures.accepted in
     let written = subst (λ (claim : ClaimParts). is_unwritten claim ≡ false) (sym c.claim-claim.ensures.value)
     (c.wire_laws.ensures.accepted accepted.0 c.args.upheld.now accepted.1) in

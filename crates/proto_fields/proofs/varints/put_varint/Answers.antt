@@ -3,7 +3,7 @@ use Rattle.proto_fields.proofs.Varint.Bytes.{varint-low, length-varint-low, leng
 use Rattle.proto_fields.proofs.varints.put_varint.Goals as goal
 
 pub append-requires : goal.append-requires
-append-requires c = record { room = omega (arith, c.requires.room, some-varint c.loop-rest.rest) }
+append-requires c = record { capacity = omega (arith, c.requires.capacity, some-varint c.loop-rest.rest) }
 
 pub loop-rest-preserved : goal.loop-rest-preserved
 loop-rest-preserved c = record {
@@ -15,7 +15,7 @@ loop-rest-preserved c = record {
 }
 
 pub append-requires-2 : goal.append-requires-2
-append-requires-2 c = record { room = omega (arith, c.requires.room, some-varint c.loop-rest.rest) }
+append-requires-2 c = record { capacity = omega (arith, c.requires.capacity, some-varint c.loop-rest.rest) }
 
 pub returns-clause-appended : goal.returns-clause-appended
 returns-clause-appended c =

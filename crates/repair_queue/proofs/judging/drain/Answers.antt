@@ -30,7 +30,7 @@ loop-axis-preserved-else-is_some-3 c =
       tools = x.1;
       holds = λ ms before. x.2 ms (c.loop-axis.invariant.holds ms before);
       room = λ roomy.
-          c.decide-ended.ensures.room (none_is c.decide-ended.result c.is_some.result c.is_some.ensures c.if-is_some.false) (c.loop-axis.invariant.room roomy);
+          c.decide-ended.ensures.capacity (none_is c.decide-ended.result c.is_some.result c.is_some.ensures c.if-is_some.false) (c.loop-axis.invariant.room roomy);
     }
 
 -- or it isn't due

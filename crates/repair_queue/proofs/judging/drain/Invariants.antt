@@ -1,6 +1,6 @@
 use Rattle.std.proofs.Common.{List, ◌+◌, ◌-◌, ◌*◌}
 use Rattle.axis_roots.specs.declared.message.messages.Message.{Message}
-use Rattle.repair_queue.specs.Pools.{StaysRoomy}
+use Rattle.repair_queue.specs.Pools.{KeepsCapacity}
 use Rattle.repair_queue.specs.Boards.{decided_of, IsGood, HoldsFor}
 use Rattle.repair_queue.specs.Tools.{AreTools}
 use Rattle.repair_queue.proofs.Counting.CountLemmas.{undecided_count}
@@ -12,7 +12,7 @@ invariant-loop-axis l = record {
   good : IsGood l.header l.board;
   tools : AreTools l.header.k l.tools;
   holds : (ms : List Message) → HoldsFor l.header ms l.fn.board → HoldsFor l.header ms l.board;
-  room : StaysRoomy l.fn.board.pool l.board.pool;
+  room : KeepsCapacity l.fn.board.pool l.board.pool;
 }
 
 -- each turn decides a row or a column, or passes one of the queue

@@ -22,7 +22,7 @@ loop-i-init c = record {
     are = λ line shown. subst (AreOfLine c.args.header.now c.args.axis c.args.index line []) (sym c.requires.spare.empty) tt;
   };
   count = omega (arith, ap length c.requires.spare.empty, c.args.cells.ok.0);
-  space = omega (arith, c.requires.spare.room);
+  space = omega (arith, c.requires.spare.capacity);
 }
 
 -- each position is on the row or column

@@ -17,7 +17,7 @@ loop-pos-preserved c = record {
   width = c.clear_cell.ensures.width ∙ c.loop-pos.invariant.width;
   cleared = cleared_next (slot_in c.args.pool.now) (slot_in c.loop-pos.pool) (slot_in c.clear_cell.new.pool) c.args.axis c.args.index c.loop-pos.pos c.cell_on.result
       c.cell_on.ensures c.loop-pos.invariant.cleared c.clear_cell.ensures.cleared;
-  room = λ roomy. c.clear_cell.ensures.room (c.loop-pos.invariant.room roomy);
+  room = λ roomy. c.clear_cell.ensures.capacity (c.loop-pos.invariant.room roomy);
 }
 
 -- at the end all are

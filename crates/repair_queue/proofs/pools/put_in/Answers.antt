@@ -6,7 +6,7 @@ use Rattle.axis_roots.specs.Proved.{kept_message}
 use Rattle.repair_queue.specs.Places.{cell_place, IsPlaced}
 use Rattle.repair_queue.specs.Slots.{IsPut}
 use Rattle.repair_queue.specs.Pools.{PoolParts, slots_by, slot_in, samples_of_row}
-use Rattle.repair_queue.proofs.Places.PutInLemmas.{in_put, in_pool, stays_roomy}
+use Rattle.repair_queue.proofs.Places.PutInLemmas.{in_put, in_pool, keeps_capacity}
 use Rattle.repair_queue.proofs.pools.put_in.Goals as goal
 
 -- the cell is in the square
@@ -39,8 +39,8 @@ returns-clause-put c =
     (subst (λ (m : Message). IsPlaced (cell_place c.pool.inside.places) (cell_place c.set.new.self) m.axis m.cell c.store-place.result) c.message-message.ensures c.set.ensures.placed))
 
 -- and it has as much capacity
-pub returns-clause-room : goal.returns-clause-room
-returns-clause-room c =
+pub returns-clause-capacity : goal.returns-clause-capacity
+returns-clause-capacity c =
     subst (λ (p : PoolParts). 2 * p.places.k * (2 * p.places.k) ≤ p.capacity → 2 * c.set.new.self.k * (2 * c.set.new.self.k) ≤ vec_capacity c.store-place.new.given) c.pool.view_is
-    (stays_roomy c.pool.inside.places.k c.set.new.self.k (vec_capacity c.pool.inside.given) (vec_capacity c.store-place.new.given) c.set.ensures.width
+    (keeps_capacity c.pool.inside.places.k c.set.new.self.k (vec_capacity c.pool.inside.given) (vec_capacity c.store-place.new.given) c.set.ensures.width
     c.store-place.ensures.given)

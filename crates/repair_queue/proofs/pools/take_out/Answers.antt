@@ -4,7 +4,7 @@ use Rattle.namespace_id.specs.Cells.{is_in_square}
 use Rattle.repair_queue.specs.Places.{cell_place}
 use Rattle.repair_queue.specs.Slots.{IsEmptied}
 use Rattle.repair_queue.specs.Pools.{PoolParts, slots_by, slot_in}
-use Rattle.repair_queue.proofs.Places.PutInLemmas.{stays_roomy}
+use Rattle.repair_queue.proofs.Places.PutInLemmas.{keeps_capacity}
 use Rattle.repair_queue.proofs.Places.TakeOutLemmas.{look_there, out_emptied, out_pool}
 use Rattle.repair_queue.proofs.pools.take_out.Goals as goal
 
@@ -35,7 +35,7 @@ invariant_of-pool c =
     c.set.new.self.k (vec_capacity c.push.new.self) c.push.new.self.items c.set.ensures.width (search rules) c.push.ensures.capacity
 
 -- and it has as much capacity
-pub returns-clause-room : goal.returns-clause-room
-returns-clause-room c =
+pub returns-clause-capacity : goal.returns-clause-capacity
+returns-clause-capacity c =
     subst (λ (p : PoolParts). 2 * p.places.k * (2 * p.places.k) ≤ p.capacity → 2 * c.set.new.self.k * (2 * c.set.new.self.k) ≤ vec_capacity c.pool.inside.given) c.pool.view_is
-    (stays_roomy c.pool.inside.places.k c.set.new.self.k (vec_capacity c.pool.inside.given) (vec_capacity c.pool.inside.given) c.set.ensures.width (omega arith))
+    (keeps_capacity c.pool.inside.places.k c.set.new.self.k (vec_capacity c.pool.inside.given) (vec_capacity c.pool.inside.given) c.set.ensures.width (omega arith))

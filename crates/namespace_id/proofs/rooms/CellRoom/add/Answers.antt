@@ -14,7 +14,7 @@ unwrap-requires c =
     c.push.ensures.succeeds (omega (
       arith,
       c.self.inside.list.ok,
-      c.self.invariant.room,
+      c.self.invariant.capacity,
       cells_fewer c.self.inside.k c.self.inside.list.items c.args.cell c.self.invariant.cells may.0 may.1,
     ))
 
@@ -28,5 +28,5 @@ invariant_of-self c =
     record {
       cells = subst (λ (l : List Cell). are_cells c.self.inside.k l ≡ true) (sym added)
           (are_cells_with c.self.inside.k c.self.inside.list.items c.args.cell c.self.invariant.cells may.0 may.1);
-      room = omega (arith, c.push.ensures.capacity, c.self.invariant.room);
+      capacity = omega (arith, c.push.ensures.capacity, c.self.invariant.capacity);
     }

@@ -8,5 +8,5 @@ pub invariant_of-self : goal.invariant_of-self
 invariant_of-self c = record {
   cells = are_no_cells c.self.inside.k c.clear.new.self.items
       (cells_parts c.self.inside.k c.self.inside.list.items c.self.invariant.cells).0 c.clear.ensures.items;
-  room = omega (arith, c.clear.ensures.capacity, c.self.invariant.room);
+  capacity = omega (arith, c.clear.ensures.capacity, c.self.invariant.capacity);
 }

@@ -5,5 +5,5 @@ use Rattle.namespace_id.proofs.rooms.CellRoom.new.Goals as goal
 pub invariant_of-result : goal.invariant_of-result
 invariant_of-result c = record {
   cells = are_no_cells c.args.k c.in_ok-list.list.items c.requires.width c.in_ok-list.ensures.items;
-  room = c.in_ok-list.ensures.capacity;
+  capacity = c.in_ok-list.ensures.capacity;
 }
