@@ -4,7 +4,7 @@ use Rattle.repair_queue.proofs.tools.Tools.new.Goals as goal
 -- each buffer is the one that was made
 pub returns : goal.returns
 returns c = record {
-  capacity = c.in_ok-room.ensures.width;
+  room = c.in_ok-room.ensures.width;
   code = c.in_ok-code.ensures;
   line = search rules;
   known = search rules;
