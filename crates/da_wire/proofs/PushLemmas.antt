@@ -1,5 +1,5 @@
 -- What a push answers is what the bytes come to that it took.
-use Rattle.std.proofs.Common.{◌≡◌, ◌∙◌, ℕ, ◌+◌, ◌-◌, ◌<◌, ◌≤◌, Bool, true, false, eqb, leb, ◌&&◌, cond, List, [], ◌∷◌, ◌++◌, length, take, drop, Option, None, Some, refl, sym, ap, subst, arith, length-take-le, length-drop, get_or, ⊎_elim, le-leb}
+use Rattle.std.proofs.Common.{◌≡◌, ◌∙◌, ℕ, ◌+◌, ◌-◌, ◌<◌, ◌≤◌, Bool, true, false, eqb, leb, ◌&&◌, cond, List, [], ◌∷◌, ◌++◌, length, take, drop, Option, None, Some, refl, sym, ap, ap₂, subst, arith, length-take-le, length-drop, get_or, ⊎_elim, le-leb}
 use Rattle.std.proofs.lemmas.Bool.{cases_lt, cases_Bool, false≢true, lt-leb, and_right}
 use Rattle.std.proofs.lemmas.List.{take-append-le, take_all, take-take, drop-take, get_or-take}
 use Rattle.std.proofs.lemmas.Option.{none-some}
