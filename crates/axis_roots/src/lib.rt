@@ -22,9 +22,9 @@ pub use answers::{Found, NsAnswer, NsEntry, ShareList, answer_law};
 pub use claims::{FraudClaim, FraudProof, SetNodes, claim_law, claim_laws, is_along};
 pub use halves::LeftHalf;
 pub use message::{
-    CheckRefusal, Message, PartialTrees, Proved, RefusedMessage, check, index, made_laws,
-    message_from, message_law, message_laws, message_of, opens, opens_by, opens_hashed_by,
-    own_laws, position,
+    CheckRefusal, Message, PartialTrees, Proved, RefusedMessage, are_ascending, check, index,
+    made_laws, message_from, message_law, message_laws, message_of, opens, opens_by,
+    opens_hashed_by, own_laws, position,
 };
 pub use square::{
     Grid, Trees, cell_on, grid_laws, header_of, header_of_square, is_root, line_strict_root,

@@ -13,6 +13,6 @@ mod proved;
 pub use certificates::{RefusedMessage, check};
 pub use laws::{message_laws, own_laws};
 pub use making::{made_laws, message_from, message_of};
-pub use messages::{CheckRefusal, Message, index, message_law, opens, position};
+pub use messages::{CheckRefusal, Message, are_ascending, index, message_law, opens, position};
 pub use partials::{PartialTrees, opens_by, opens_hashed_by};
 pub use proved::Proved;

@@ -1,11 +1,10 @@
 //! Fraud claims under a header.
 
-ghost use Rattle.std.specs.Prelude.{◌≡◌, ◌↔◌, ◌*◌, ◌<◌, ◌≤◌, ℕ, Option, IsTrue, IsOk, IfOk, IfErr, Some, None, true, false, length, map, take, nat_lt};
+ghost use Rattle.std.specs.Prelude.{◌≡◌, ◌↔◌, ◌*◌, ◌<◌, ◌≤◌, ℕ, Option, IsTrue, IsOk, IfOk, IfErr, Some, None, true, false, length, map, take};
 ghost use Rattle.std.specs.List.{list_all, list_any};
 ghost use Rattle.nmt_proofs.specs.declared.opening.OpenRefusal.{OpenRefusal as NotOpened};
 ghost use Rattle.namespace_id.specs.Answers.{refusal_in};
 ghost use Rattle.namespace_id.specs.Cells.{is_width, is_in_square};
-ghost use Rattle.namespace_id.specs.Lists.{holds_along};
 ghost use Rattle.axis_roots.specs.declared.message.messages.CheckRefusal.{CheckRefusal as Why};
 ghost use Rattle.axis_roots.specs.Messages.{position};
 ghost use Rattle.axis_roots.specs.Sets.{is_along, along_in, sample_names, is_bare, fits_set};
@@ -17,8 +16,8 @@ ghost use Rattle.befp_verify.specs.Lines.{IsRootThrough};
 use crate::view::view_law;
 use crate::{ClaimView, Upheld};
 use axis_roots::{
-    CheckRefusal, FraudClaim, Message, claim_laws, index, is_along, is_root, line_strict_root,
-    message_laws, opens, position,
+    CheckRefusal, FraudClaim, Message, are_ascending, claim_laws, index, is_along, is_root,
+    line_strict_root, message_laws, opens, position,
 };
 use data_header::Header;
 use leopard_code::{Room, rebuild};
@@ -110,18 +109,6 @@ fn are_on(claim: &ClaimView<'_>) -> bool
         .cells
         .iter()
         .all(|message| index(claim.axis, message.cell) == claim.index)
-}
-
-/// Whether the position of each cell on the axis is below that of the next one.
-fn are_ascending(axis: Axis, cells: &[Message]) -> bool
-    ensures { result ≡ holds_along nat_lt (map (λ m. position axis m.cell) cells.now) }
-{
-    for i in 1..cells.len() {
-        if position(axis, cells[i - 1].cell) >= position(axis, cells[i].cell) {
-            return false;
-        }
-    }
-    true
 }
 
 /// Whether a claim accuses an axis of a square of width `k` by exactly k cells of it, at ascending

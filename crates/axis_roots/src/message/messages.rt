@@ -1,7 +1,8 @@
 //! Samples, and whether one is proved under a header.
 
-ghost use Rattle.std.specs.Prelude.{◌≡◌, ◌↔◌, IsOk, IsErrOf, IsErrAnd, true, false};
+ghost use Rattle.std.specs.Prelude.{◌≡◌, ◌↔◌, IsOk, IsErrOf, IsErrAnd, true, false, map, nat_lt};
 ghost use Rattle.namespace_id.specs.Answers.{refusal_in};
+ghost use Rattle.namespace_id.specs.Lists.{holds_along};
 ghost use Rattle.axis_roots.specs.Messages.{position, index, is_inside, has_node_count, has_ordered_joins, is_under_root, message_refusal, IsMessage};
 ghost use Rattle.axis_roots.specs.Openings.{IsProved};
 ghost use Rattle.axis_roots.specs.Own.{IsOwn};
@@ -47,6 +48,18 @@ pub fn position(axis: Axis, cell: Cell) -> u16
         Axis::Row => cell.col,
         Axis::Col => cell.row,
     }
+}
+
+/// Whether the position of each sample's cell on the axis is below that of the next one.
+pub fn are_ascending(axis: Axis, cells: &[Message]) -> bool
+    ensures { result ≡ holds_along nat_lt (map (λ m. position axis m.cell) cells.now) }
+{
+    for i in 1..cells.len() {
+        if position(axis, cells[i - 1].cell) >= position(axis, cells[i].cell) {
+            return false;
+        }
+    }
+    true
 }
 
 /// Which row or column runs through a cell: the row's number, or the column's.

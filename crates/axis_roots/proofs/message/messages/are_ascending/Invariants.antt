@@ -2,7 +2,7 @@ use Rattle.std.proofs.Common.{◌≡◌, ◌-◌, drop, map}
 use Rattle.std.specs.Prelude.{nat_lt}
 use Rattle.namespace_id.specs.Lists.{holds_along}
 use Rattle.axis_roots.specs.Messages.{position}
-use Rattle.befp_verify.proofs.verifying.are_ascending.Given as goal
+use Rattle.axis_roots.proofs.message.messages.are_ascending.Given as goal
 
 -- the positions from the one before on decide
 abbrev pub invariant-loop-i : goal.invariant-loop-i

@@ -4,7 +4,7 @@ use Rattle.std.proofs.lemmas.Bool.{lt-ltb, le-ltb}
 use Rattle.std.proofs.lemmas.List.{length-map, get_or-map}
 use Rattle.namespace_id.proofs.AlongLemmas.{along_fails, along_on, along_end}
 use Rattle.axis_roots.specs.Messages.{position}
-use Rattle.befp_verify.proofs.verifying.are_ascending.Goals as goal
+use Rattle.axis_roots.proofs.message.messages.are_ascending.Goals as goal
 
 -- a position that isn't below the next one
 pub returns-then-position : goal.returns-then-position
