@@ -34,6 +34,12 @@ front_long : {A : Type 0} (f : Message → A) (cells : List Message) (n : ℕ) (
 front_long f cells n old new count same is =
     ap (λ (l : List _). length (take n l)) same ∙ ap (λ (l : List _). length l) is ∙ length-map cells f ∙ sym count
 
+-- two such fronts, of what two functions say of the same cells, are equally long
+fronts_long : {A B : Type 0} (f : Message → A) (g : Message → B) (cells : List Message) (n : ℕ) (old new : List A) (left right : List B) → n ≡ length cells
+    → old ≡ new → take n new ≡ map f cells → left ≡ right → take n right ≡ map g cells → length (take n old) ≡ length (take n left)
+fronts_long f g cells n old new left right count same is like are =
+    front_long f cells n old new count same is ∙ sym (front_long g cells n left right count like are)
+
 -- the claim has k cells
 pub gather_along-count-requires-clause-known : goal.gather_along-count-requires-clause-known
 gather_along-count-requires-clause-known c =
@@ -97,37 +103,17 @@ slice_bounds-open_set-end-3 c =
 
 pub open_set-requires-clause-names : goal.open_set-requires-clause-names
 open_set-requires-clause-names c =
-    front_long (λ m. leaf_namespace c.header.inside.k m.cell m.share)
-    (along_in c.claim.inside.axis c.claim.inside.cells.now)
-    c.gather_along-count.result c.deref-2.result.now c.gather_along-count.new.names
-    c.gather_along-count.ensures.count
-    (c.deref-2.ensures.value
-    ∙ front c.gather_along-count.new.names _ _ (c.gather_along-count.auto.names ∙ c.deref_mut-2.ensures.len))
-    c.gather_along-count.ensures.names
-    ∙ sym (front_long (λ m. position c.claim.inside.axis m.cell)
-    (along_in c.claim.inside.axis c.claim.inside.cells.now)
-    c.gather_along-count.result c.deref.result.now c.gather_along-count.new.known
-    c.gather_along-count.ensures.count
-    (c.deref.ensures.value
-    ∙ front c.gather_along-count.new.known _ _ (c.gather_along-count.auto.known ∙ c.deref_mut.ensures.len))
-    c.gather_along-count.ensures.known)
+    fronts_long (λ m. leaf_namespace c.header.inside.k m.cell m.share) (λ m. position c.claim.inside.axis m.cell)
+    (along_in c.claim.inside.axis c.claim.inside.cells.now) c.gather_along-count.result _ _ _ _ c.gather_along-count.ensures.count
+    (c.deref-2.ensures.value ∙ front c.gather_along-count.new.names _ _ (c.gather_along-count.auto.names ∙ c.deref_mut-2.ensures.len)) c.gather_along-count.ensures.names
+    (c.deref.ensures.value ∙ front c.gather_along-count.new.known _ _ (c.gather_along-count.auto.known ∙ c.deref_mut.ensures.len)) c.gather_along-count.ensures.known
 
 pub open_set-requires-clause-shares : goal.open_set-requires-clause-shares
 open_set-requires-clause-shares c =
-    front_long (λ m. m.share)
-    (along_in c.claim.inside.axis c.claim.inside.cells.now)
-    c.gather_along-count.result c.deref-3.result.now c.gather_along-count.new.shares
-    c.gather_along-count.ensures.count
-    (c.deref-3.ensures.value
-    ∙ front c.gather_along-count.new.shares _ _ (c.gather_along-count.auto.shares ∙ c.deref_mut-3.ensures.len))
-    c.gather_along-count.ensures.shares
-    ∙ sym (front_long (λ m. position c.claim.inside.axis m.cell)
-    (along_in c.claim.inside.axis c.claim.inside.cells.now)
-    c.gather_along-count.result c.deref.result.now c.gather_along-count.new.known
-    c.gather_along-count.ensures.count
-    (c.deref.ensures.value
-    ∙ front c.gather_along-count.new.known _ _ (c.gather_along-count.auto.known ∙ c.deref_mut.ensures.len))
-    c.gather_along-count.ensures.known)
+    fronts_long (λ m. m.share) (λ m. position c.claim.inside.axis m.cell)
+    (along_in c.claim.inside.axis c.claim.inside.cells.now) c.gather_along-count.result _ _ _ _ c.gather_along-count.ensures.count
+    (c.deref-3.ensures.value ∙ front c.gather_along-count.new.shares _ _ (c.gather_along-count.auto.shares ∙ c.deref_mut-3.ensures.len)) c.gather_along-count.ensures.shares
+    (c.deref.ensures.value ∙ front c.gather_along-count.new.known _ _ (c.gather_along-count.auto.known ∙ c.deref_mut.ensures.len)) c.gather_along-count.ensures.known
 
 pub open_set-requires-clause-some : goal.open_set-requires-clause-some
 open_set-requires-clause-some c =
