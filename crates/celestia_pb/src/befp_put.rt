@@ -1,10 +1,9 @@
 //! Fraud claims written as messages BadEncoding.
 
-ghost use Rattle.std.specs.Prelude.{◌≡◌, ◌↔◌, ℕ, List, ◌+◌, ◌*◌, ◌≤◌, ◌<◌, ◌++◌, length, map, true, nat_lt, vec_len, vec_capacity, IsSome, IfSome};
+ghost use Rattle.std.specs.Prelude.{◌≡◌, ◌↔◌, ℕ, List, ◌+◌, ◌*◌, ◌≤◌, ◌<◌, ◌++◌, length, true, nat_lt, vec_len, vec_capacity, IsSome, IfSome};
 ghost use Rattle.std.specs.List.{list_all};
 ghost use Rattle.namespace_id.specs.Answers.{Gives, HasCapacity};
 ghost use Rattle.namespace_id.specs.Cells.{is_width};
-ghost use Rattle.namespace_id.specs.Lists.{holds_along};
 ghost use Rattle.proto_fields.specs.Spelled.{bytes_field};
 ghost use Rattle.axis_roots.specs.Messages.{position};
 ghost use Rattle.axis_roots.specs.Claims.{is_on, has_shape};
@@ -15,7 +14,7 @@ use crate::befp_entries::{AXIS, DATA, PLACE, PROOF};
 use crate::entries::{number_size, part_size, put_entry, put_front};
 use crate::inclusions::inclusion_size;
 use crate::sample::{axis_number, put_path};
-use axis_roots::{FraudClaim, Message, index, message_law, position};
+use axis_roots::{FraudClaim, Message, are_ascending, index, message_law, position};
 use namespace_id::{Axis, SHARE_SIZE, is_width};
 use proto_fields::put_canonical_number;
 
@@ -39,18 +38,6 @@ fn are_on(claim: &FraudClaim) -> bool
         .cells
         .iter()
         .all(|message| index(claim.axis, message.cell) == claim.index)
-}
-
-/// Whether the position of each cell on the axis is below that of the next one.
-fn are_ascending(axis: Axis, cells: &[Message]) -> bool
-    ensures { result ≡ holds_along nat_lt (map (λ m. position axis m.cell) cells.now) }
-{
-    for i in 1..cells.len() {
-        if position(axis, cells[i - 1].cell) >= position(axis, cells[i].cell) {
-            return false;
-        }
-    }
-    true
 }
 
 /// Whether the position of each cell on the accused axis is below this one.
