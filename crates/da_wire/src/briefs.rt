@@ -51,15 +51,42 @@ fn brief_of_kind(alloc: Global, kind: Kind, payload: &[u8]) -> Result<Option<Bri
     ensures { GivesUnlessFull result (brief_of_kind kind payload.now) }
 {
     match kind {
-        Kind::Names => Ok(places(alloc, payload)?.map(|(name, found)| Brief::Names(name, found))),
-        Kind::Fraud => Ok(fraud(alloc, payload)?.map(Brief::Fraud)),
-        Kind::Missing => Ok(missing(alloc, payload)?.map(Brief::Missing)),
-        Kind::Sample => Ok(sample(payload).map(|(cell, axis)| Brief::Sample(cell, axis))),
-        Kind::Request => Ok(request(payload).map(Brief::Request)),
-        Kind::Block => Ok(block(alloc, payload)?.map(Brief::Block)),
-        Kind::Transactions => Ok(transactions(alloc, payload)?.map(Brief::Transactions)),
-        Kind::Refusal => Ok(refusal(payload).map(Brief::Refusal)),
-        Kind::State => Ok(state(payload).map(|_| Brief::State)),
+        Kind::Names => match places(alloc, payload)? {
+            Some((name, found)) => Ok(Some(Brief::Names(name, found))),
+            None => Ok(None),
+        },
+        Kind::Fraud => match fraud(alloc, payload)? {
+            Some(claim) => Ok(Some(Brief::Fraud(claim))),
+            None => Ok(None),
+        },
+        Kind::Missing => match missing(alloc, payload)? {
+            Some(cells) => Ok(Some(Brief::Missing(cells))),
+            None => Ok(None),
+        },
+        Kind::Sample => match sample(payload) {
+            Some((cell, axis)) => Ok(Some(Brief::Sample(cell, axis))),
+            None => Ok(None),
+        },
+        Kind::Request => match request(payload) {
+            Some(name) => Ok(Some(Brief::Request(name))),
+            None => Ok(None),
+        },
+        Kind::Block => match block(alloc, payload)? {
+            Some(block) => Ok(Some(Brief::Block(block))),
+            None => Ok(None),
+        },
+        Kind::Transactions => match transactions(alloc, payload)? {
+            Some(units) => Ok(Some(Brief::Transactions(units))),
+            None => Ok(None),
+        },
+        Kind::Refusal => match refusal(payload) {
+            Some(refusal) => Ok(Some(Brief::Refusal(refusal))),
+            None => Ok(None),
+        },
+        Kind::State => match state(payload) {
+            Some(_) => Ok(Some(Brief::State)),
+            None => Ok(None),
+        },
         _ => Ok(None),
     }
 }

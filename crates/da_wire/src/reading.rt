@@ -79,21 +79,66 @@ fn value_of_kind(alloc: Global, kind: Kind, payload: &[u8]) -> Result<Option<Fra
     ensures { GivesUnlessFull result (value_of_kind kind payload.now) }
 {
     match kind {
-        Kind::Header => Ok(header(alloc, payload)?.map(Frame::Header)),
-        Kind::Square => Ok(square(alloc, payload)?.map(Frame::Square)),
-        Kind::Message => Ok(message(payload).map(Frame::Message)),
-        Kind::Names => Ok(names(alloc, payload)?.map(|(name, answer)| Frame::Names(name, answer))),
-        Kind::Fraud => Ok(fraud(alloc, payload)?.map(Frame::Fraud)),
-        Kind::Missing => Ok(missing(alloc, payload)?.map(Frame::Missing)),
-        Kind::Clash => Ok(clash(payload).map(Frame::Clash)),
-        Kind::Sample => Ok(sample(payload).map(|(cell, axis)| Frame::Sample(cell, axis))),
-        Kind::Request => Ok(request(payload).map(Frame::Request)),
-        Kind::Block => Ok(block(alloc, payload)?.map(Frame::Block)),
-        Kind::Commit => Ok(commit(alloc, payload)?.map(Frame::Commit)),
-        Kind::Rooted => Ok(rooted(payload).map(Frame::Rooted)),
-        Kind::Transactions => Ok(transactions(alloc, payload)?.map(Frame::Transactions)),
-        Kind::Refusal => Ok(refusal(payload).map(Frame::Refusal)),
-        Kind::State => Ok(state(payload).map(|_| Frame::State)),
+        Kind::Header => match header(alloc, payload)? {
+            Some(header) => Ok(Some(Frame::Header(header))),
+            None => Ok(None),
+        },
+        Kind::Square => match square(alloc, payload)? {
+            Some(square) => Ok(Some(Frame::Square(square))),
+            None => Ok(None),
+        },
+        Kind::Message => match message(payload) {
+            Some(message) => Ok(Some(Frame::Message(message))),
+            None => Ok(None),
+        },
+        Kind::Names => match names(alloc, payload)? {
+            Some((name, answer)) => Ok(Some(Frame::Names(name, answer))),
+            None => Ok(None),
+        },
+        Kind::Fraud => match fraud(alloc, payload)? {
+            Some(claim) => Ok(Some(Frame::Fraud(claim))),
+            None => Ok(None),
+        },
+        Kind::Missing => match missing(alloc, payload)? {
+            Some(cells) => Ok(Some(Frame::Missing(cells))),
+            None => Ok(None),
+        },
+        Kind::Clash => match clash(payload) {
+            Some(clash) => Ok(Some(Frame::Clash(clash))),
+            None => Ok(None),
+        },
+        Kind::Sample => match sample(payload) {
+            Some((cell, axis)) => Ok(Some(Frame::Sample(cell, axis))),
+            None => Ok(None),
+        },
+        Kind::Request => match request(payload) {
+            Some(name) => Ok(Some(Frame::Request(name))),
+            None => Ok(None),
+        },
+        Kind::Block => match block(alloc, payload)? {
+            Some(block) => Ok(Some(Frame::Block(block))),
+            None => Ok(None),
+        },
+        Kind::Commit => match commit(alloc, payload)? {
+            Some(proof) => Ok(Some(Frame::Commit(proof))),
+            None => Ok(None),
+        },
+        Kind::Rooted => match rooted(payload) {
+            Some(proof) => Ok(Some(Frame::Rooted(proof))),
+            None => Ok(None),
+        },
+        Kind::Transactions => match transactions(alloc, payload)? {
+            Some(units) => Ok(Some(Frame::Transactions(units))),
+            None => Ok(None),
+        },
+        Kind::Refusal => match refusal(payload) {
+            Some(refusal) => Ok(Some(Frame::Refusal(refusal))),
+            None => Ok(None),
+        },
+        Kind::State => match state(payload) {
+            Some(_) => Ok(Some(Frame::State)),
+            None => Ok(None),
+        },
     }
 }
 
