@@ -16,7 +16,10 @@ fn answer_of(frame: Frame) -> Option<(Namespace, NsAnswer)>
 {
     match frame {
         Frame::Names(name, answer) => Some((name, answer)),
-        _ => None,
+        other => {
+            drop(other);
+            None
+        }
     }
 }
 

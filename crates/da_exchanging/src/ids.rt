@@ -31,7 +31,10 @@ fn cell_of(frame: Frame) -> Option<Cell>
 {
     match frame {
         Frame::Sample(cell, _axis) => Some(cell),
-        _ => None,
+        other => {
+            drop(other);
+            None
+        }
     }
 }
 
@@ -41,7 +44,10 @@ fn name_of(frame: Frame) -> Option<Namespace>
 {
     match frame {
         Frame::Request(name) => Some(name),
-        _ => None,
+        other => {
+            drop(other);
+            None
+        }
     }
 }
 

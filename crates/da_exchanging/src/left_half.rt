@@ -19,7 +19,10 @@ fn message_of(frame: Frame) -> Option<Message>
 {
     match frame {
         Frame::Message(message) => Some(message),
-        _other => None,
+        other => {
+            drop(other);
+            None
+        }
     }
 }
 

@@ -119,7 +119,10 @@ fn entries_of(frame: Frame) -> Option<NsAnswer>
 {
     match frame {
         Frame::Names(_name, answer) => Some(answer),
-        _ => None,
+        other => {
+            drop(other);
+            None
+        }
     }
 }
 

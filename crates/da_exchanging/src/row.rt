@@ -40,7 +40,9 @@ fn append_frame(frame: Frame, text: &mut Vec<u8>) -> Result<(), NoMemory>
     requires { IsSome (spelling frame) }
     ensures { IfOk result (λ done. AppendsSpelling frame text.old.items text.new.items) }
 {
-    match write_frame(&frame, text) {
+    let written = write_frame(&frame, text);
+    drop(frame);
+    match written {
         Ok(()) => Ok(()),
         // Never taken: the frame has a spelling. The type of the error has this variant too.
         Err(SpellError::Unspellable) => unreachable!(),

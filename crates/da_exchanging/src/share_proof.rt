@@ -26,7 +26,10 @@ fn rooted_of(frame: Frame) -> Option<RootedMessage>
 {
     match frame {
         Frame::Rooted(proof) => Some(proof),
-        _other => None,
+        other => {
+            drop(other);
+            None
+        }
     }
 }
 

@@ -112,7 +112,10 @@ fn block_or_list_of(frame: Frame) -> Option<BlockOrList>
     match frame {
         Frame::Block(block) => Some(BlockOrList::Block(block)),
         Frame::Transactions(transactions) => Some(BlockOrList::Transactions(transactions)),
-        _ => None,
+        other => {
+            drop(other);
+            None
+        }
     }
 }
 

@@ -145,7 +145,10 @@ fn hand(
                 Ok(())
             }
         }
-        _ => Ok(()),
+        other => {
+            drop(other);
+            Ok(())
+        }
     }
 }
 

@@ -42,7 +42,10 @@ pub(crate) fn answer_of(frame: Frame) -> Option<Answer>
         Frame::Fraud(claim) => Some(Answer::Fraud(claim)),
         Frame::Commit(proof) => Some(Answer::Commit(proof)),
         Frame::Rooted(proof) => Some(Answer::Rooted(proof)),
-        _ => None,
+        other => {
+            drop(other);
+            None
+        }
     }
 }
 
@@ -53,7 +56,10 @@ pub(crate) fn request_of(frame: Frame) -> Option<Request>
     match frame {
         Frame::Sample(cell, axis) => Some(Request::Sample(cell, axis)),
         Frame::Request(name) => Some(Request::Names(name)),
-        _ => None,
+        other => {
+            drop(other);
+            None
+        }
     }
 }
 

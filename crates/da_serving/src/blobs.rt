@@ -143,7 +143,11 @@ pub fn execute<O: Sink>(alloc: Global, files: &[Vec<u8>], out: &mut O) -> Status
         (O.faults out.new) (out.new ≡ out.old) result }
 {
     match shares_in(alloc, file(files, SHARES)) {
-        Ok(frame) => give_of(alloc, &frame, out),
+        Ok(frame) => {
+            let status = give_of(alloc, &frame, out);
+            drop(frame);
+            status
+        }
         Err(Unread::BadForm(at)) => Status::BadInput(SHARES, at),
         Err(Unread::NoMemory) => Status::NoMemory,
     }

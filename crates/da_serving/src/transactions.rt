@@ -30,7 +30,9 @@ fn unlay<O: Sink>(alloc: Global, square: &Square, out: &mut O) -> Status
     };
     let frame = Frame::Transactions(UnitList { list });
     let mut text = Vec::new(alloc);
-    match write_frame(&frame, &mut text) {
+    let written = write_frame(&frame, &mut text);
+    drop(frame);
+    match written {
         Ok(()) => put(&text, Status::Done, out),
         Err(SpellError::Unspellable) => Status::BadRequest(Asked::LongList),
         Err(SpellError::NoMemory) => Status::NoMemory,
