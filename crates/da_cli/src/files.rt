@@ -16,7 +16,7 @@ use std::alloc::Global;
 pub const FILE_LIMIT: u64 = 536_870_912;
 
 /// Why the files were not read whole.
-#[derive(Clone, Copy, Debug, PartialEq, Eq)]
+#[derive(Clone, Copy)]
 pub(crate) enum Stop {
     PickFault(u32),
     ReadFault(u32),

@@ -96,7 +96,7 @@ fn answer<I: Inputs, O: Sink>(
     let Some(call) = call_of(words) else {
         return Status::Usage;
     };
-    if call.command == Command::Repair {
+    if matches!(call.command, Command::Repair) {
         answer_streamed(alloc, words, call, inputs, out)
     } else {
         answer_gathered(alloc, words, call, inputs, out)

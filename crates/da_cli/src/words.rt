@@ -11,7 +11,7 @@ use da_commands::{Command, ExportForm, ImportForm};
 use da_io::is_standard_input;
 
 /// A command, and how many words name its files. These come first behind its own, or behind FORM.
-#[derive(Clone, Copy, Debug, PartialEq, Eq)]
+#[derive(Clone, Copy)]
 pub(crate) struct Call {
     pub(crate) command: Command,
     pub(crate) files: usize,

@@ -21,7 +21,7 @@ use namespace_id::Axis;
 use std::alloc::Global;
 
 /// A command with its values.
-#[derive(Clone, Copy, Debug, PartialEq, Eq)]
+#[derive(Clone, Copy)]
 pub enum Command {
     /// `check HEADER MESSAGES`
     Check,

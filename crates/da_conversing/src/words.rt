@@ -11,7 +11,7 @@ use da_io::{NoMemory, is_standard_input};
 use std::alloc::Global;
 
 /// Where the key of a watch comes from.
-#[derive(Clone, Copy, Debug, PartialEq, Eq)]
+#[derive(Clone, Copy)]
 pub(crate) enum KeyWord {
     /// The word is the key.
     Key([u8; 32]),
@@ -20,7 +20,7 @@ pub(crate) enum KeyWord {
 }
 
 /// What KEY and COUNT of a watch say.
-#[derive(Clone, Copy, Debug, PartialEq, Eq)]
+#[derive(Clone, Copy)]
 pub(crate) struct Watch {
     pub(crate) key: KeyWord,
     pub(crate) count: u32,

@@ -3,7 +3,7 @@
 use namespace_id::Axis;
 
 /// What a repair came to.
-#[derive(Clone, Copy, Debug, PartialEq, Eq)]
+#[derive(Clone, Copy)]
 pub enum Outcome {
     /// The square that was laid out.
     Whole,
@@ -18,7 +18,7 @@ pub enum Outcome {
 }
 
 /// Whether a fraud proof was accepted by a verifier.
-#[derive(Clone, Copy, Debug, PartialEq, Eq)]
+#[derive(Clone, Copy)]
 pub enum Upheld {
     Yes,
     No,
@@ -27,7 +27,7 @@ pub enum Upheld {
 }
 
 /// What came of a trial.
-#[derive(Clone, Copy, Debug, PartialEq, Eq)]
+#[derive(Clone, Copy)]
 pub struct Trial {
     pub k: u16,
     pub blobs: u32,

@@ -17,7 +17,7 @@ use square_layout::Square;
 use std::alloc::Global;
 
 /// What came of the first session.
-#[derive(Clone, Copy, Debug, PartialEq, Eq)]
+#[derive(Clone, Copy)]
 pub(crate) struct First {
     /// The data root of the grid's header.
     pub(crate) root: [u8; 32],

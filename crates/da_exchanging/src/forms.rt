@@ -15,7 +15,7 @@ use namespace_id::{Cell, Namespace};
 use std::alloc::Global;
 
 /// What `import` takes the bytes of FILE for, with what they don't say themselves.
-#[derive(Clone, Copy, Debug, PartialEq, Eq)]
+#[derive(Clone, Copy)]
 pub enum ImportForm {
     /// `dah FILE`: a DataAvailabilityHeader; the frame is H.
     Dah,
@@ -43,7 +43,7 @@ pub enum ImportForm {
 }
 
 /// What `export` makes of the frame in FILE, with what the frame doesn't say.
-#[derive(Clone, Copy, Debug, PartialEq, Eq)]
+#[derive(Clone, Copy)]
 pub enum ExportForm {
     /// `dah FILE`: of H a DataAvailabilityHeader.
     Dah,

@@ -22,7 +22,7 @@ const DRAW_SIZE: usize = 34;
 const MOVE_SIZE: usize = 7;
 
 /// An event of a script.
-#[derive(Clone, Copy, Debug, PartialEq, Eq)]
+#[derive(Clone, Copy)]
 pub(crate) enum Move {
     /// The adversary puts an item into the pool.
     Put(u32),
