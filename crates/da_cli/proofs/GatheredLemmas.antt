@@ -10,12 +10,12 @@ use Rattle.da_io.specs.Files.{Files}
 use Rattle.da_io.specs.declared.inputs.LastCall.{LastCall}
 use Rattle.da_cli.specs.declared.files.Stop.{Stop}
 use Rattle.da_cli.specs.declared.files.Stop.TheVariants.{PickFault, ReadFault, TooLong, NoMemory}
-use Rattle.da_cli.specs.Words.{words_of, files_named}
+use Rattle.da_words.specs.Words.{words_of, files_named}
 use Rattle.da_io.specs.Faults.{count_on}
 use Rattle.da_io.specs.declared.inputs.LastCall.TheVariants as ended
 use Rattle.da_files.specs.Contents.{contents_of, file_of}
 use Rattle.da_cli.specs.Gathered.{Gathered, whole, long, absent, after, gathered_one, gathered_from, gathered, IsWord, IsLastOf, PicksIn, ReadsFile, StopsFile, GathersFiles, StopsIn, AllRead}
-use Rattle.da_cli.proofs.WordLemmas.{length-named}
+use Rattle.da_words.proofs.WordLemmas.{length-named}
 
 -- one more content in front of what is gathered after them
 after-after : (front : List (List ℕ)) (content : List ℕ) (g : Gathered) → after front (after (content ∷ []) g) ≡ after (front ++ content ∷ []) g

@@ -1,5 +1,3 @@
-pub mod ValueLemmas
-pub mod WordLemmas
 pub mod GatheredLemmas
 pub mod FeedingLemmas
 pub mod StreamedLemmas

@@ -10,9 +10,9 @@ use Rattle.da_cli.specs.declared.files.Stop.{Stop}
 use Rattle.da_cli.specs.declared.files.Stop.TheVariants as stop
 use Rattle.da_status.specs.declared.status.Status.{Status}
 use Rattle.da_status.specs.declared.status.Status.TheVariants.{Usage, PickFault, ReadFault, TooLong}
-use Rattle.da_cli.specs.declared.words.Call.{Call}
+use Rattle.da_words.specs.declared.words.Call.{Call}
 use Rattle.da_cli.specs.Limits.{limits_for, limits_in, limits_of}
-use Rattle.da_cli.specs.Words.{words_of, call_of, last_file, files_of_words}
+use Rattle.da_words.specs.Words.{words_of, call_of, last_file, files_of_words}
 use Rattle.da_status.specs.Statuses.{status_kind, Reading, unread, failed, exceeded, begun, finished, row_of, counted_reading, input_count, output_count}
 use Rattle.da_cli.specs.Gathered.{IsWord, IsLastOf, PicksIn, StopsIn, IsWithinLimit, WithinLimits, count_after}
 use Rattle.da_cli.specs.Causes.{FaultCause, GivenReading, ExcessCause, IfFinished, LastBy, PicksReading, PickCount}

@@ -7,13 +7,13 @@ use Rattle.std.proofs.lemmas.Grind.{common_steps}
 use Rattle.std.proofs.KnownBytes.{Appends-nil}
 use Rattle.std.proofs.lemmas.List.{length-map}
 use Rattle.da_io.specs.Files.{Files}
-use Rattle.da_commands.specs.declared.command.Command.{Command}
-use Rattle.da_commands.specs.declared.command.Command.TheVariants.{Repair}
-use Rattle.da_cli.specs.declared.words.Call.{Call}
+use Rattle.da_words.specs.declared.command.Command.{Command}
+use Rattle.da_words.specs.declared.command.Command.TheVariants.{Repair}
+use Rattle.da_words.specs.declared.words.Call.{Call}
 use Rattle.da_status.specs.declared.status.Status.{Status}
 use Rattle.da_status.specs.declared.status.Status.TheVariants.{BadInput, TooLong}
 use Rattle.da_status.specs.Statuses.{Kind, usage, fault, excess, form, request, memory, write, output, status_kind, row_of, May, DecidesKind}
-use Rattle.da_cli.specs.Words.{words_of, call_of, words_before, last_file, file_words, plain_count, files_named, call_names, files_of_call, files_of_words}
+use Rattle.da_words.specs.Words.{words_of, call_of, words_before, last_file, file_words, plain_count, files_named, call_names, files_of_call, files_of_words}
 use Rattle.da_cli.specs.Limits.{file_limits, limits_for, limits_in, limits_of}
 use Rattle.da_cli.specs.Gathered.{Gathered, whole, long, absent, gathered, GathersFiles}
 use Rattle.da_cli.specs.declared.files.Stop.{Stop}
@@ -24,7 +24,7 @@ use Rattle.da_commands.specs.Meaning.{judged_of, AnswerOf, Meaning}
 use Rattle.da_cli.specs.Run.{status_of, CommandOf, CallOf, RunOf, LeavesTold, CompletesBy, Completes}
 use Rattle.da_cli.specs.Laws.{FormLaw, BadInputLaw, ExcessLaw, AbsentLaw, FailureLaw}
 use Rattle.da_cli.proofs.GatheredLemmas.{AllGathered}
-use Rattle.da_cli.proofs.WordLemmas.{names_behind, named-all, length-named}
+use Rattle.da_words.proofs.WordLemmas.{names_behind, named-all, length-named}
 use Rattle.da_status.proofs.EndLemmas.{IsAnswer}
 use Rattle.da_commands.proofs.MeaningLemmas.{answer_last}
 

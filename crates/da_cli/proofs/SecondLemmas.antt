@@ -11,7 +11,7 @@ use Rattle.da_cli.specs.declared.files.Stop.{Stop}
 use Rattle.da_cli.specs.declared.files.Stop.TheVariants as stop
 use Rattle.da_status.specs.declared.status.Status.{Status}
 use Rattle.da_status.specs.declared.status.Status.TheVariants.{BadInput}
-use Rattle.da_commands.specs.declared.command.Command.TheVariants.{Repair}
+use Rattle.da_words.specs.declared.command.Command.TheVariants.{Repair}
 use Rattle.da_files.specs.Contents.{file_of}
 use Rattle.da_status.specs.Outcome.{Relation, Refuses, EndsAtOnce}
 use Rattle.da_status.specs.Judging.{Judged}

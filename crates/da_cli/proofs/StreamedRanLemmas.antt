@@ -4,11 +4,11 @@ use Rattle.da_io.specs.declared.inputs.Inputs as inputs
 use Rattle.da_io.specs.declared.sink.Sink as sink
 use Rattle.da_cli.specs.declared.files.Stop.{Stop}
 use Rattle.da_status.specs.declared.status.Status.{Status}
-use Rattle.da_cli.specs.declared.words.Call.{Call}
-use Rattle.da_commands.specs.declared.command.Command.{Command}
-use Rattle.da_commands.specs.declared.command.Command.TheVariants.{Repair}
+use Rattle.da_words.specs.declared.words.Call.{Call}
+use Rattle.da_words.specs.declared.command.Command.{Command}
+use Rattle.da_words.specs.declared.command.Command.TheVariants.{Repair}
 use Rattle.da_cli.specs.Limits.{repair_limits, limits_for}
-use Rattle.da_cli.specs.Words.{words_of, call_of, last_file}
+use Rattle.da_words.specs.Words.{words_of, call_of, last_file}
 use Rattle.da_status.specs.Outcome.{Ends}
 use Rattle.da_commands.specs.Meaning.{Meaning}
 use Rattle.da_cli.specs.Run.{status_of, IsEarly}

@@ -3,11 +3,11 @@ use Rattle.std.specs.Prelude.{◌≡◌, ◌↔◌, ◌⊎◌, ℕ, List, [], �
 use Rattle.namespace_id.specs.declared.cells.Axis.{Axis}
 use Rattle.data_header.specs.Headers.{Roots}
 use Rattle.da_io.specs.Files.{Files}
-use Rattle.da_cli.specs.declared.words.Call.{Call}
+use Rattle.da_words.specs.declared.words.Call.{Call}
 use Rattle.da_status.specs.declared.status.Status.{Status}
 use Rattle.da_status.specs.declared.status.Status.TheVariants.{Done, BadInput, TooLong, Waiting}
 use Rattle.da_status.specs.Statuses.{status_kind, DecidesKind}
-use Rattle.da_cli.specs.Words.{call_of, call_names}
+use Rattle.da_words.specs.Words.{call_of, call_names}
 use Rattle.da_cli.specs.Limits.{limits_for}
 use Rattle.da_cli.specs.Gathered.{gathered, whole, long, absent}
 use Rattle.da_status.specs.Outcome.{Refuses}

@@ -1,7 +1,4 @@
 pub mod Limits
-pub mod Values
-pub mod Forms
-pub mod Words
 pub mod Gathered
 pub mod Causes
 pub mod Feeding

@@ -1,10 +1,10 @@
 -- The limits of what is read (docs/FORMATS.md, "Limits").
 use Rattle.std.specs.Prelude.{ℕ, zero, suc, List, None, Some}
 use Rattle.std.specs.declared.option.Option.{Option}
-use Rattle.da_commands.specs.declared.command.Command.{Command}
-use Rattle.da_commands.specs.declared.command.Command.TheVariants.{Repair}
-use Rattle.da_cli.specs.declared.words.Call.{Call}
-use Rattle.da_cli.specs.Words.{call_of}
+use Rattle.da_words.specs.declared.command.Command.{Command}
+use Rattle.da_words.specs.declared.command.Command.TheVariants.{Repair}
+use Rattle.da_words.specs.declared.words.Call.{Call}
+use Rattle.da_words.specs.Words.{call_of}
 
 -- the bytes that one input file may have: 512 MiB
 abbrev pub file_limit : ℕ

@@ -18,8 +18,8 @@ use Rattle.da_wire.specs.declared.frames.Frame.TheVariants.{Commit}
 use Rattle.da_wire.specs.Spelling.{spelling}
 use Rattle.da_wire.specs.Frames.{frames_of}
 use Rattle.da_io.specs.Files.{Files}
-use Rattle.da_cli.specs.Values.{is_command}
-use Rattle.da_cli.specs.Words.{files_of_words}
+use Rattle.da_words.specs.Values.{is_command}
+use Rattle.da_words.specs.Words.{files_of_words}
 use Rattle.da_cli.specs.Limits.{limits_of}
 use Rattle.da_cli.specs.Gathered.{gathered, whole}
 use Rattle.da_files.specs.Frames.{header_in, square_in, claim_in}

@@ -5,7 +5,7 @@ use Rattle.da_io.specs.declared.sink.Sink as sink
 use Rattle.da_status.specs.declared.status.Status.{Status}
 use Rattle.da_status.specs.declared.status.Status.TheVariants.{Usage}
 use Rattle.da_status.specs.Statuses.{status_kind, input_count, output_count}
-use Rattle.da_cli.specs.Words.{call_of, files_of_words}
+use Rattle.da_words.specs.Words.{call_of, files_of_words}
 use Rattle.da_cli.specs.Limits.{limits_of}
 use Rattle.da_cli.specs.Gathered.{IsLast}
 use Rattle.da_cli.specs.Causes.{FaultCause, ExcessCause, LastBy, PickCount}

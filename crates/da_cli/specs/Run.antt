@@ -2,14 +2,14 @@
 use Rattle.std.specs.Prelude.{◌≡◌, ℕ, List, ⊤, Some, None}
 use Rattle.std.specs.declared.option.Option.{Option}
 use Rattle.da_io.specs.Files.{Files}
-use Rattle.da_commands.specs.declared.command.Command.{Command}
-use Rattle.da_cli.specs.declared.words.Call.{Call}
+use Rattle.da_words.specs.declared.command.Command.{Command}
+use Rattle.da_words.specs.declared.words.Call.{Call}
 use Rattle.da_status.specs.declared.status.Status.{Status}
 use Rattle.da_status.specs.declared.status.Status.TheVariants.{Usage, PickFault, ReadFault, TooLong, NoMemory}
 use Rattle.da_cli.specs.declared.files.Stop.{Stop}
 use Rattle.da_cli.specs.declared.files.Stop.TheVariants as stop
 use Rattle.da_status.specs.Statuses.{Kind, status_kind, row_of, May}
-use Rattle.da_cli.specs.Words.{call_of, call_names}
+use Rattle.da_words.specs.Words.{call_of, call_names}
 use Rattle.da_cli.specs.Limits.{limits_for}
 use Rattle.da_cli.specs.Gathered.{Gathered, whole, long, absent, gathered}
 use Rattle.da_status.specs.Outcome.{Relation, Refuses, LeavesBy, Leaves}

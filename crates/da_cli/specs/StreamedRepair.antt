@@ -11,7 +11,7 @@ use Rattle.da_status.specs.Outcome.{EndsAtOnce}
 use Rattle.da_cli.specs.Limits.{stream_limit, repair_limits}
 use Rattle.da_cli.specs.Streamed.{IsRead, HasCome}
 use Rattle.da_cli.specs.declared.files.Stop.TheVariants.{NoMemory}
-use Rattle.da_commands.specs.declared.command.Command.TheVariants.{Repair}
+use Rattle.da_words.specs.declared.command.Command.TheVariants.{Repair}
 use Rattle.da_judging.specs.Repair.{Repairs}
 use Rattle.da_commands.specs.Meaning.{Meaning}
 

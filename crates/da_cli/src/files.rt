@@ -3,13 +3,13 @@
 ghost use Rattle.std.specs.Prelude.{◌≡◌, ◌≤◌, ◌<◌, length, IfErr, IfOk, Some, Ok, Err};
 ghost use Rattle.std.specs.String.{string_bytes};
 ghost use Rattle.da_cli.specs.Limits.{file_limit, file_limits};
-ghost use Rattle.da_cli.specs.Words.{words_of, files_named};
+ghost use Rattle.da_words.specs.Words.{words_of, files_named};
 ghost use Rattle.da_io.specs.Faults.{count_on};
 ghost use Rattle.da_io.specs.declared.inputs.LastCall.TheVariants.{Fine};
 ghost use Rattle.da_cli.specs.Gathered.{bytes_read, files_read, IsLastOf, PicksIn, ReadsFile, StopsFile, GathersFiles, StopsIn, count_after, WithinLimit, WithinLimits};
 
-use crate::words::name_at;
 use da_io::{InputFault, Inputs, read_all};
+use da_words::name_at;
 use std::alloc::Global;
 
 /// The bytes that one input file may have, 512 MiB.

@@ -4,7 +4,7 @@ ghost use Rattle.std.specs.Prelude.{◌≡◌, [], length};
 ghost use Rattle.std.specs.String.{string_bytes};
 ghost use Rattle.repair_queue.specs.SessionParts.{SessionStands};
 ghost use Rattle.da_cli.specs.StreamedRepair.{RepairsFile, StreamsSecond, Streams};
-ghost use Rattle.da_cli.specs.Words.{words_of};
+ghost use Rattle.da_words.specs.Words.{words_of};
 
 use crate::feeding::fed_laws;
 use crate::files::{Stop, read_file};

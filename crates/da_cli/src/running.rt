@@ -2,10 +2,10 @@
 
 ghost use Rattle.std.specs.Prelude.{◌≡◌, ◌≢◌, ◌↔◌, length, ◌<◌, [], Some, None, IsSome};
 ghost use Rattle.da_status.specs.declared.status.Status.TheVariants.{Usage};
-ghost use Rattle.da_commands.specs.declared.command.Command.TheVariants as CommandOf;
-ghost use Rattle.da_commands.specs.Meaning.{IsRunnable};
+ghost use Rattle.da_words.specs.declared.command.Command.TheVariants as CommandOf;
+ghost use Rattle.da_words.specs.Commands.{IsRunnable};
 ghost use Rattle.da_cli.specs.Limits.{limits_of};
-ghost use Rattle.da_cli.specs.Words.{words_of, call_of, last_file, files_of_words, HasFiles};
+ghost use Rattle.da_words.specs.Words.{words_of, call_of, last_file, files_of_words, HasFiles};
 ghost use Rattle.da_status.specs.Statuses.{status_kind, input_count, output_count};
 ghost use Rattle.da_cli.specs.Gathered.{IsLast};
 ghost use Rattle.da_cli.specs.Causes.{FaultCause, ExcessCause, LastBy, PickCount};
@@ -18,10 +18,10 @@ ghost use Rattle.da_cli.specs.Run.{IsEarly, status_of, LeavesTold, Completes};
 use crate::files::{Stop, gather};
 use crate::laws::run_laws;
 use crate::repair::stream;
-use crate::words::{Call, call_of, file_words, plain_count};
-use da_commands::{Command, execute};
+use da_commands::execute;
 use da_io::{Inputs, Sink};
 use da_status::{Status, note};
+use da_words::{Call, Command, call_of, file_words, plain_count};
 use std::alloc::Global;
 
 /// The status of files that were not read whole.

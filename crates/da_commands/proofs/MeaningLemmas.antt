@@ -6,8 +6,8 @@ use Rattle.da_show.specs.Json.{json_text}
 use Rattle.da_status.specs.declared.status.Status.{Status}
 use Rattle.da_status.specs.Statuses.{status_kind}
 use Rattle.da_status.proofs.EndLemmas.{IsAnswer, answer_output, status_answers}
-use Rattle.da_commands.specs.declared.command.Command.{Command}
-use Rattle.da_commands.specs.declared.command.Command.TheVariants.{Check, Build, Header, Sample, Namespace, Verify, Compact, Repair, Light, LightBy, Net, Show, Json, Demo, VerifyCommitment, VerifyFor, Root, RootIs, Wanted, Cells, CellsBy, Blobs, Transactions, Find, Commit, Prove, ProveRange, Follow, Import, Export, Help, Version}
+use Rattle.da_words.specs.declared.command.Command.{Command}
+use Rattle.da_words.specs.declared.command.Command.TheVariants.{Check, Build, Header, Sample, Namespace, Verify, Compact, Repair, Light, LightBy, Net, Show, Json, Demo, VerifyCommitment, VerifyFor, Root, RootIs, Wanted, Cells, CellsBy, Blobs, Transactions, Find, Commit, Prove, ProveRange, Follow, Import, Export, Help, Version}
 use Rattle.da_commands.specs.Show.{all_kinds, shown_file}
 use Rattle.da_commands.specs.Meaning.{AnswerOf}
 use Rattle.da_judging.proofs.CheckLemmas.{check_last}

@@ -1,7 +1,6 @@
 -- demo NUMBER WIDTH: what comes of the trial of a number.
-use Rattle.std.specs.Prelude.{◌≡◌, ℕ, ◌*◌, ◌&&◌, nat_le, Bool, List, [], ◌∷◌, ◌++◌, codes, decimal, Option}
+use Rattle.std.specs.Prelude.{◌≡◌, ℕ, ◌*◌, List, [], ◌∷◌, ◌++◌, codes, decimal, Option}
 use Rattle.std.specs.List.{flat_map}
-use Rattle.namespace_id.specs.Cells.{is_width}
 use Rattle.hex.specs.Hex.{encode_lower}
 use Rattle.da_demo.specs.declared.outcomes.Outcome.{Outcome}
 use Rattle.da_demo.specs.declared.outcomes.Outcome.TheVariants as outcome
@@ -12,10 +11,6 @@ use Rattle.da_demo.specs.Trials.{IsTrial}
 use Rattle.da_status.specs.declared.status.Status.TheVariants.{Done}
 use Rattle.da_status.specs.Notes.{axis_note}
 use Rattle.da_status.specs.Outcome.{Relation}
-
--- whether a trial may have this width
-abbrev pub is_trial_width : ℕ → Bool
-is_trial_width k = is_width k && nat_le 2 k
 
 -- what a repair came to, in words
 abbrev pub outcome_word : Outcome → List ℕ

@@ -1,8 +1,8 @@
 -- What each command writes and answers, over the contents of its files.
-use Rattle.std.specs.Prelude.{◌≡◌, ℕ, List, [], ◌∷◌, true, ⊤}
+use Rattle.std.specs.Prelude.{ℕ, List, [], ◌∷◌, ⊤}
 use Rattle.std.specs.declared.option.Option.{Option}
-use Rattle.da_commands.specs.declared.command.Command.{Command}
-use Rattle.da_commands.specs.declared.command.Command.TheVariants.{Check, Build, Header, Sample, Namespace, Verify, Compact, Repair, Light, LightBy, Net, Show, Json, Demo, VerifyCommitment, VerifyFor, Root, RootIs, Wanted, Cells, CellsBy, Blobs, Transactions, Find, Commit, Prove, ProveRange, Follow, Import, Export, Help, Version}
+use Rattle.da_words.specs.declared.command.Command.{Command}
+use Rattle.da_words.specs.declared.command.Command.TheVariants.{Check, Build, Header, Sample, Namespace, Verify, Compact, Repair, Light, LightBy, Net, Show, Json, Demo, VerifyCommitment, VerifyFor, Root, RootIs, Wanted, Cells, CellsBy, Blobs, Transactions, Find, Commit, Prove, ProveRange, Follow, Import, Export, Help, Version}
 use Rattle.da_wire.specs.Spelling.{sample_kind, request_kind}
 use Rattle.da_status.specs.Outcome.{Relation}
 use Rattle.da_status.specs.Judging.{Judged}
@@ -19,7 +19,7 @@ use Rattle.da_judging.specs.Repair.{RepairOf}
 use Rattle.da_judging.specs.Light.{LightOf, light_by_judged, LightByOf}
 use Rattle.da_commands.specs.Net.{net_judged, NetOf}
 use Rattle.da_commands.specs.Show.{show_judged, ShowOf, JsonOf}
-use Rattle.da_commands.specs.Demo.{is_trial_width, demo_judged, DemoOf}
+use Rattle.da_commands.specs.Demo.{demo_judged, DemoOf}
 use Rattle.da_judging.specs.VerifyFor.{verify_for_judged, VerifyForOf}
 use Rattle.da_judging.specs.VerifyCommitment.{VerifyCommitmentOf}
 use Rattle.da_judging.specs.Root.{RootOf, RootIsOf}
@@ -107,11 +107,6 @@ AnswerOf Version files = VersionOf
 -- what a command writes and answers over any files
 abbrev pub Meaning : Command → List (List ℕ) → Relation
 Meaning command files = Judged (judged_of command files) (AnswerOf command files)
-
--- a command can be run: the width of a demo is a trial's
-abbrev pub IsRunnable : Command → Type 0
-IsRunnable (Demo number k) = is_trial_width k ≡ true
-IsRunnable command = ⊤
 
 -- commands that take all of their memory before they write
 abbrev pub TakesFirst : Command → Type 0

@@ -1,7 +1,8 @@
 //! demo NUMBER WIDTH: what comes of the trial of a number.
 
 ghost use Rattle.std.specs.Prelude.{◌≡◌, ◌≤◌, ◌<◌, [], length, get_or, true};
-ghost use Rattle.da_commands.specs.Demo.{is_trial_width, number_line, trial_root_line, outcome_line, upheld_line, trial_lines, TellsTrial, DemoOf};
+ghost use Rattle.da_words.specs.Commands.{is_trial_width};
+ghost use Rattle.da_commands.specs.Demo.{number_line, trial_root_line, outcome_line, upheld_line, trial_lines, TellsTrial, DemoOf};
 ghost use Rattle.da_status.specs.Outcome.{EndsAtOnce};
 
 use da_demo::{Outcome, Trial, Upheld, trial};

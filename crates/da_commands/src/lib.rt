@@ -13,8 +13,7 @@ mod laws;
 mod net;
 mod show;
 
-pub use command::{Command, execute};
-pub use da_exchanging::{ExportForm, ImportForm};
+pub use command::execute;
 pub use da_files::{Unread, header_in, message_in, square_in};
 pub use da_following::follow_laws;
 pub use da_judging::{
@@ -22,4 +21,5 @@ pub use da_judging::{
     refusal_of, request_in,
 };
 pub use da_serving::{blobs_laws, header_frame};
+pub use da_words::{Command, ExportForm, ImportForm};
 pub use laws::answering_laws;

@@ -1,7 +1,7 @@
 //! net HEADER MESSAGES SCRIPT: what comes of a script of a network.
 
 ghost use Rattle.std.specs.Prelude.{◌≡◌};
-ghost use Rattle.da_commands.specs.declared.command.Command.TheVariants as CommandOf;
+ghost use Rattle.da_words.specs.declared.command.Command.TheVariants as CommandOf;
 ghost use Rattle.da_files.specs.Contents.{contents_of};
 ghost use Rattle.da_commands.specs.Meaning.{Meaning};
 ghost use Rattle.da_status.specs.Outcome.{EndsAtOnce};

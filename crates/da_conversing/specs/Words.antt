@@ -4,7 +4,7 @@ use Rattle.std.specs.declared.option.Option.{Option}
 use Rattle.std.specs.Option.{option_map, option_map_or, is_some}
 use Rattle.std.specs.Str.{bytes_eq}
 use Rattle.da_io.specs.Files.{is_standard_input}
-use Rattle.da_cli.specs.Values.{is_command, number_in, key_in, is_key_name, key_name}
+use Rattle.da_words.specs.Values.{is_command, number_in, key_in, is_key_name, key_name}
 use Rattle.da_conversing.specs.declared.words.KeyWord.{KeyWord}
 use Rattle.da_conversing.specs.declared.words.KeyWord.TheVariants.{Key, Named}
 use Rattle.da_conversing.specs.declared.words.Watch.{Watch}

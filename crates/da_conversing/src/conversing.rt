@@ -4,7 +4,7 @@ ghost use Rattle.std.specs.Prelude.{◌≡◌, ◌↔◌, true, false, IsSome};
 ghost use Rattle.da_status.specs.declared.status.Status.TheVariants.{Usage};
 ghost use Rattle.da_status.specs.Statuses.{status_kind, input_count, output_count};
 ghost use Rattle.da_status.specs.Notes.{note_of, Notes};
-ghost use Rattle.da_cli.specs.Words.{words_of};
+ghost use Rattle.da_words.specs.Words.{words_of};
 ghost use Rattle.da_conversing.specs.Words.{is_hold, is_gather, is_attend, is_watch, is_stay};
 ghost use Rattle.da_conversing.specs.Attends.{AnswersAttend};
 ghost use Rattle.da_conversing.specs.Courses.{Converses, RepliesWhole};

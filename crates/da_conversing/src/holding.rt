@@ -3,7 +3,7 @@
 ghost use Rattle.std.specs.Prelude.{◌≡◌, ◌↔◌, true, IsSome};
 ghost use Rattle.std.specs.String.{string_bytes};
 ghost use Rattle.da_status.specs.Statuses.{status_kind, input_count, output_count};
-ghost use Rattle.da_cli.specs.Words.{words_of};
+ghost use Rattle.da_words.specs.Words.{words_of};
 ghost use Rattle.da_conversing.specs.Words.{is_hold};
 ghost use Rattle.da_conversing.specs.Courses.{GoesOn, Converses};
 

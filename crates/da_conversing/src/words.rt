@@ -2,8 +2,8 @@
 
 ghost use Rattle.std.specs.Prelude.{◌≡◌, ◌<◌, [], get_or, length, IfOk};
 ghost use Rattle.std.specs.String.{string_bytes};
-ghost use Rattle.da_cli.specs.Values.{is_command};
-ghost use Rattle.da_cli.specs.Words.{words_of};
+ghost use Rattle.da_words.specs.Values.{is_command};
+ghost use Rattle.da_words.specs.Words.{words_of};
 ghost use Rattle.da_conversing.specs.Words.{is_talk_word, is_talk, has_talk, key_given, is_key_input, is_once, watch_of, has_watch, watch_call, talk_file, key_file_name};
 
 use da_cli::{is_key_name, key_in, key_name, number_in};

@@ -12,10 +12,10 @@ use Rattle.da_status.specs.declared.status.Status.{Status}
 use Rattle.da_status.specs.Statuses.{status_kind}
 use Rattle.da_status.proofs.EndLemmas.{IsAnswer}
 use Rattle.da_files.specs.Frames.{header_in, message_in, square_in, claim_in}
-use Rattle.da_exchanging.specs.declared.forms.ImportForm.{ImportForm}
-use Rattle.da_exchanging.specs.declared.forms.ImportForm.TheVariants as from
-use Rattle.da_exchanging.specs.declared.forms.ExportForm.{ExportForm}
-use Rattle.da_exchanging.specs.declared.forms.ExportForm.TheVariants as to
+use Rattle.da_words.specs.declared.forms.ImportForm.{ImportForm}
+use Rattle.da_words.specs.declared.forms.ImportForm.TheVariants as from
+use Rattle.da_words.specs.declared.forms.ExportForm.{ExportForm}
+use Rattle.da_words.specs.declared.forms.ExportForm.TheVariants as to
 use Rattle.da_exchanging.specs.Sample.{sample_frame, message_text}
 use Rattle.da_exchanging.specs.Ids.{asked_cell_in, asked_name_in, row_request}
 use Rattle.da_exchanging.specs.Answers.{ns_answer_in}

@@ -44,8 +44,8 @@ use Rattle.da_files.specs.Requests.{namespace_of}
 use Rattle.da_files.specs.Forms.{Over, single_judged}
 use Rattle.da_files.proofs.FormLemmas.{single_is}
 use Rattle.da_files.proofs.FileLemmas.{header_file, square_file, single_value}
-use Rattle.da_exchanging.specs.declared.forms.ImportForm.TheVariants as from
-use Rattle.da_exchanging.specs.declared.forms.ExportForm.TheVariants as to
+use Rattle.da_words.specs.declared.forms.ImportForm.TheVariants as from
+use Rattle.da_words.specs.declared.forms.ExportForm.TheVariants as to
 use Rattle.da_exchanging.specs.Made.{WritesIf}
 use Rattle.da_exchanging.specs.Sample.{sample_frame, message_text}
 use Rattle.da_exchanging.specs.Ids.{cell_of, row_request}

@@ -30,7 +30,7 @@ use Rattle.da_files.specs.Contents.{file_of}
 use Rattle.da_files.specs.Frames.{error_of, Writes}
 use Rattle.da_files.specs.Forms.{Over}
 use Rattle.da_files.proofs.FormLemmas.{single_is}
-use Rattle.da_exchanging.specs.declared.forms.ImportForm.TheVariants as from
+use Rattle.da_words.specs.declared.forms.ImportForm.TheVariants as from
 use Rattle.da_exchanging.specs.Header.{WritesRoots}
 use Rattle.da_exchanging.specs.Row.{AreSpelled, row_sample_frame, row_frames, RowBy, RowOf}
 use Rattle.da_exchanging.specs.Laws.{Imports, HeaderIsOfDah, square_frames, RowIsOfSquare}

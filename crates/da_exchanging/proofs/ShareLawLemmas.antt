@@ -13,8 +13,8 @@ use Rattle.da_wire.specs.Spelling.{rooted_kind}
 use Rattle.da_wire.specs.Laws.{OnlyIsSpelled, SpelledIsOnly}
 use Rattle.da_status.specs.declared.status.Asked.TheVariants.{Form}
 use Rattle.da_status.specs.declared.status.Status.TheVariants.{Done}
-use Rattle.da_exchanging.specs.declared.forms.ImportForm.TheVariants as from
-use Rattle.da_exchanging.specs.declared.forms.ExportForm.TheVariants as to
+use Rattle.da_words.specs.declared.forms.ImportForm.TheVariants as from
+use Rattle.da_words.specs.declared.forms.ExportForm.TheVariants as to
 use Rattle.da_exchanging.specs.ShareProof.{rooted_of, GivesMessage, ProofAnswer}
 use Rattle.da_exchanging.specs.Laws.{IsExportedBack, IsImportedBack}
 use Rattle.da_exchanging.proofs.LawLemmas.{not_asked, exported_back, imported_back, file_spelled}

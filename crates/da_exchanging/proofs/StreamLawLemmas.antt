@@ -26,7 +26,7 @@ use Rattle.da_files.specs.Frames.{header_in, single_file, error_of, Writes}
 use Rattle.da_files.specs.Forms.{Over}
 use Rattle.da_files.proofs.FormLemmas.{single_is}
 use Rattle.da_files.proofs.FileLemmas.{header_file, single_value}
-use Rattle.da_exchanging.specs.declared.forms.ExportForm.TheVariants as to
+use Rattle.da_words.specs.declared.forms.ExportForm.TheVariants as to
 use Rattle.da_exchanging.specs.Answers.{ns_answer_of}
 use Rattle.da_exchanging.specs.NamespaceData.{data_under, bad_data, entries_of, entries_in, StreamBy, StreamOf}
 use Rattle.da_exchanging.specs.Laws.{Exports, ImportsUnder, NamespaceDataIsExportedBack, NamespaceDataIsImportedBack}

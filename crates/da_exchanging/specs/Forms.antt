@@ -13,10 +13,10 @@ use Rattle.celestia_pb.specs.Ods.{ods_value}
 use Rattle.da_status.specs.Outcome.{Relation}
 use Rattle.da_files.specs.Frames.{header_in, message_in, square_in, claim_in}
 use Rattle.da_files.specs.Forms.{single_judged}
-use Rattle.da_exchanging.specs.declared.forms.ImportForm.{ImportForm}
-use Rattle.da_exchanging.specs.declared.forms.ImportForm.TheVariants as from
-use Rattle.da_exchanging.specs.declared.forms.ExportForm.{ExportForm}
-use Rattle.da_exchanging.specs.declared.forms.ExportForm.TheVariants as to
+use Rattle.da_words.specs.declared.forms.ImportForm.{ImportForm}
+use Rattle.da_words.specs.declared.forms.ImportForm.TheVariants as from
+use Rattle.da_words.specs.declared.forms.ExportForm.{ExportForm}
+use Rattle.da_words.specs.declared.forms.ExportForm.TheVariants as to
 use Rattle.da_exchanging.specs.Dah.{ImportDahOf, ExportDahOf}
 use Rattle.da_exchanging.specs.Header.{ImportHeaderOf}
 use Rattle.da_exchanging.specs.Sample.{ImportSampleOf, ExportSampleOf}

@@ -32,10 +32,10 @@ use Rattle.da_wire.specs.Reading.{only_of}
 use Rattle.da_status.specs.declared.status.Status.TheVariants.{Done}
 use Rattle.da_status.specs.Judging.{Judged}
 use Rattle.da_files.specs.Frames.{header_in, message_in}
-use Rattle.da_exchanging.specs.declared.forms.ImportForm.{ImportForm}
-use Rattle.da_exchanging.specs.declared.forms.ImportForm.TheVariants as from
-use Rattle.da_exchanging.specs.declared.forms.ExportForm.{ExportForm}
-use Rattle.da_exchanging.specs.declared.forms.ExportForm.TheVariants as to
+use Rattle.da_words.specs.declared.forms.ImportForm.{ImportForm}
+use Rattle.da_words.specs.declared.forms.ImportForm.TheVariants as from
+use Rattle.da_words.specs.declared.forms.ExportForm.{ExportForm}
+use Rattle.da_words.specs.declared.forms.ExportForm.TheVariants as to
 use Rattle.da_exchanging.specs.Answers.{ns_answer_in}
 use Rattle.da_exchanging.specs.Ids.{row_request}
 use Rattle.da_exchanging.specs.Row.{AreSpelled}

@@ -1,4 +1,4 @@
-//! The forms of Celestia's bytes, and importing and exporting one.
+//! Importing and exporting a form of Celestia's bytes.
 
 ghost use Rattle.std.specs.Prelude.{◌≡◌};
 ghost use Rattle.da_status.specs.Judging.{Judged};
@@ -11,63 +11,8 @@ use crate::{befp, dah, header, ids, namespace_data, ods, row, row_data, sample, 
 use da_files::put;
 use da_io::Sink;
 use da_status::Status;
-use namespace_id::{Cell, Namespace};
+use da_words::{ExportForm, ImportForm};
 use std::alloc::Global;
-
-/// What `import` takes the bytes of FILE for, with what they don't say themselves.
-#[derive(Clone, Copy)]
-pub enum ImportForm {
-    /// `dah FILE`: a DataAvailabilityHeader; the frame is H.
-    Dah,
-    /// `header FILE`: an ExtendedHeader, whose data hash is the data root of its axis roots; H of these.
-    Header,
-    /// `sample FILE ROW COL`: a Sample of this cell; M.
-    Sample(Cell),
-    /// `row-data FILE ROW NAMESPACE`: a RowNamespaceData of this row; N of this namespace with the one entry of the row.
-    RowData(u16, Namespace),
-    /// `befp FILE HASH HEIGHT`: a BadEncoding of a header with this hash and this height; B without a set.
-    Befp([u8; 32], u64),
-    /// `namespace-data FILE HEADER NAMESPACE`: messages RowNamespaceData, each behind its length, for the rows of HEADER that may
-    /// hold this namespace; N.
-    NamespaceData(Namespace),
-    /// `row FILE ROW`: a Row, half of the row of this number; M of each of its cells, from column 0.
-    Row(u16),
-    /// `ods FILE`: the k * k shares of an original square, row by row; S.
-    Ods,
-    /// `share-proof FILE`: a ShareProof of one share; R along the row.
-    ShareProof,
-    /// `sample-id FILE HEIGHT`: a SampleID of this height; Q along the row.
-    SampleId(u64),
-    /// `namespace-id FILE HEIGHT`: a NamespaceDataID of this height; P.
-    NamespaceId(u64),
-}
-
-/// What `export` makes of the frame in FILE, with what the frame doesn't say.
-#[derive(Clone, Copy)]
-pub enum ExportForm {
-    /// `dah FILE`: of H a DataAvailabilityHeader.
-    Dah,
-    /// `sample FILE`: of M a Sample.
-    Sample,
-    /// `row-data FILE`: of N with one entry, that has a message, a RowNamespaceData, whatever the row and the namespace.
-    RowData,
-    /// `befp FILE WIDTH HASH HEIGHT`: of B without a set, against an axis of a square of this width, a BadEncoding of a header with
-    /// this hash and this height.
-    Befp(u16, [u8; 32], u64),
-    /// `namespace-data FILE`: of N a message RowNamespaceData for each of its entries, each behind its length.
-    NamespaceData,
-    /// `row FILE`: of M of each cell of a row, from column 0, a Row, the left half.
-    Row,
-    /// `ods FILE`: of S the k * k shares, row by row.
-    Ods,
-    /// `share-proof FILE`: of R a ShareProof of one share. An R along a column has none, nor has one whose k is no width or whose
-    /// cell is outside its square.
-    ShareProof,
-    /// `sample-id FILE HEIGHT`: of Q a SampleID of this height, whatever the axis.
-    SampleId(u64),
-    /// `namespace-id FILE HEIGHT`: of P a NamespaceDataID of this height.
-    NamespaceId(u64),
-}
 
 /// The output of `import`.
 fn imported(alloc: Global, form: ImportForm, files: &[Vec<u8>]) -> Result<Vec<u8>, Status>

@@ -5,8 +5,8 @@ ghost use Rattle.namespace_id.specs.declared.cells.Cell.{Cell};
 ghost use Rattle.namespace_id.specs.declared.namespaces.Namespace.{Namespace};
 ghost use Rattle.namespace_id.specs.Names.{IsNamespace};
 ghost use Rattle.namespace_id.specs.Cells.{IsCell};
-ghost use Rattle.da_exchanging.specs.declared.forms.ImportForm.TheVariants as from;
-ghost use Rattle.da_exchanging.specs.declared.forms.ExportForm.TheVariants as to;
+ghost use Rattle.da_words.specs.declared.forms.ImportForm.TheVariants as from;
+ghost use Rattle.da_words.specs.declared.forms.ExportForm.TheVariants as to;
 ghost use Rattle.da_exchanging.specs.Laws.{IsExportedBack, IsImportedBack, SampleIsImportedBack, RowDataIsImportedBack, BefpIsExportedBack, BefpIsImportedBack, SampleIdIsImportedBack, NamespaceDataIsExportedBack, NamespaceDataIsImportedBack, HeaderIsOfDah, RowIsOfSquare};
 
 use celestia_pb::{

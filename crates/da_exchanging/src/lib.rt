@@ -21,5 +21,6 @@ mod row_data;
 mod sample;
 mod share_proof;
 
-pub use forms::{ExportForm, ImportForm, export, import};
+pub use da_words::{ExportForm, ImportForm};
+pub use forms::{export, import};
 pub use laws::exchange_laws;

@@ -4,7 +4,7 @@ use Rattle.std.specs.String.{string_bytes}
 use Rattle.da_io.specs.Files.{Files}
 use Rattle.da_cli.specs.declared.files.Stop.TheVariants.{NoMemory}
 use Rattle.da_cli.specs.Limits.{file_limit, file_limits}
-use Rattle.da_cli.specs.Words.{words_of, files_named}
+use Rattle.da_words.specs.Words.{words_of, files_named}
 use Rattle.da_files.specs.Contents.{contents_of}
 use Rattle.da_cli.specs.Gathered.{GathersFiles, ReadsFile}
 use Rattle.da_cli.proofs.GatheredLemmas.{last_on, stop_picks, come_on, stop_here, stop_in, all_read_on, named_here, contents_more}

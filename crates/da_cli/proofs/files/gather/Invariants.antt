@@ -1,7 +1,7 @@
 use Rattle.std.proofs.Common.{◌≡◌, ◌≤◌, ◌<◌, Ok}
 use Rattle.da_io.specs.Faults.{count_on}
 use Rattle.da_cli.specs.Limits.{file_limit, file_limits}
-use Rattle.da_cli.specs.Words.{words_of, files_named}
+use Rattle.da_words.specs.Words.{words_of, files_named}
 use Rattle.da_files.specs.Contents.{contents_of}
 use Rattle.da_cli.specs.Gathered.{AllRead, GathersFiles, IsLastOf}
 use Rattle.da_cli.proofs.files.gather.Given as goal

@@ -1,6 +1,6 @@
 use Rattle.std.proofs.Common.{ℕ, List, subst, arith}
 use Rattle.std.specs.String.{string_bytes}
-use Rattle.da_cli.specs.Words.{words_of}
+use Rattle.da_words.specs.Words.{words_of}
 use Rattle.da_cli.specs.StreamedRepair.{StreamsSecond}
 use Rattle.da_cli.proofs.GatheredLemmas.{name_here}
 use Rattle.da_cli.proofs.SecondLemmas.{stream_second, stream_first, stream_on}

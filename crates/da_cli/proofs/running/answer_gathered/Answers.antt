@@ -1,9 +1,9 @@
 use Rattle.std.proofs.Common.{◌≡◌, List, Vec, Global, Option, ℕ, sym, ap, subst}
-use Rattle.da_cli.specs.declared.words.Call.{Call}
+use Rattle.da_words.specs.declared.words.Call.{Call}
 use Rattle.da_cli.specs.Run.{IsEarly}
 use Rattle.da_status.specs.declared.status.Status.{Status}
 use Rattle.da_cli.specs.Limits.{file_limits}
-use Rattle.da_cli.specs.Words.{words_of}
+use Rattle.da_words.specs.Words.{words_of}
 use Rattle.da_files.specs.Contents.{contents_of}
 use Rattle.da_commands.specs.Meaning.{Meaning}
 use Rattle.da_cli.specs.Ran.{Ran}

@@ -1,7 +1,7 @@
 use Rattle.std.proofs.Common.{◌≡◌, Ok, Err, sym, subst}
 use Rattle.da_status.specs.declared.status.Status.{Status}
-use Rattle.da_commands.specs.declared.command.Command.{Command}
-use Rattle.da_cli.specs.Words.{words_of, call_of, HasFiles}
+use Rattle.da_words.specs.declared.command.Command.{Command}
+use Rattle.da_words.specs.Words.{words_of, call_of, HasFiles}
 use Rattle.da_cli.specs.Run.{IsEarly}
 use Rattle.da_cli.specs.Ran.{Ran}
 use Rattle.da_cli.proofs.StreamedRanLemmas.{ran_streamed, early_streamed}

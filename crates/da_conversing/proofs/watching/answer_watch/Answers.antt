@@ -1,7 +1,7 @@
 use Rattle.std.proofs.Common.{◌∙◌, ℕ, List, Ok, Some, inr, ap, subst}
 use Rattle.std.specs.String.{string_bytes}
 use Rattle.da_files.specs.Frames.{header_in}
-use Rattle.da_cli.specs.Words.{words_of}
+use Rattle.da_words.specs.Words.{words_of}
 use Rattle.da_conversing.specs.Words.{key_file_name}
 use Rattle.da_conversing.specs.Inputs.{HasValue}
 use Rattle.da_conversing.specs.Watches.{WatchesUnder}

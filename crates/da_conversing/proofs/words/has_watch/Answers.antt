@@ -1,8 +1,8 @@
 use Rattle.std.proofs.Common.{◌≡◌, ◌∙◌, ◌&&◌, Bool, true, List, ℕ, [], length, get_or, codes, sym, ap, arith, rules}
 use Rattle.std.specs.String.{string_bytes}
-use Rattle.da_cli.specs.Values.{is_command}
-use Rattle.da_cli.specs.Words.{words_of}
-use Rattle.da_cli.proofs.WordLemmas.{word_at, command_count}
+use Rattle.da_words.specs.Values.{is_command}
+use Rattle.da_words.specs.Words.{words_of}
+use Rattle.da_words.proofs.WordLemmas.{word_at, command_count}
 use Rattle.da_conversing.specs.Words.{is_once}
 use Rattle.da_conversing.proofs.words.has_watch.Goals as goal
 

@@ -1,0 +1,4 @@
+pub mod Commands
+pub mod Values
+pub mod Forms
+pub mod Words
