@@ -35,7 +35,7 @@ use Rattle.celestia_pb.specs.BefpEntries.{some_share, data_at}
 use Rattle.celestia_pb.specs.Aunts.{some_read, optional_at}
 use Rattle.celestia_pb.specs.SharePaths.{share_path_text, share_path_left}
 use Rattle.celestia_pb.specs.RootedRows.{rooted_row_text, has_column, has_names, is_total, is_row, rooted_row_left}
-use Rattle.celestia_pb.specs.ShareProofs.{is_along_row, name_of, id_in, name_version, share_proof_text, if_names, names_at, front_of, front_end, front_names, front_path, front_left, told_by, proof_of, proof_by, proved_version, share_proof_end, share_proof_version, share_proof_row, share_proof_left, share_proof_value}
+use Rattle.celestia_pb.specs.ShareProofs.{is_along_row, name_of, id_in, name_version, share_proof_text, if_names, names_at, front_of, front_end, front_names, front_path, front_left, facts_by, proof_of, proof_by, proved_version, share_proof_end, share_proof_version, share_proof_row, share_proof_left, share_proof_value}
 use Rattle.celestia_pb.specs.ShareProofLaws.{IsShareProof}
 use Rattle.celestia_pb.proofs.Steps.{cond_ok, then_ok, placed_ok}
 use Rattle.celestia_pb.proofs.Fronts.{begins_own}
@@ -406,7 +406,7 @@ record WasRead (bytes : List ℕ) (p : RootedParts) : Type 0 where
 was_read : (bytes : List ℕ) (p : RootedParts) → AreBytes bytes → share_proof_left bytes ≡ Ok p → WasRead bytes p
 was_read bytes p fits e =
     let a = then_ok share_proof_row (front_left bytes) p e in
-    let b = then_ok (share_proof_version a.0.0) (optional_message (λ rest part. rooted_row_left (told_by a.0.0) part) 4 a.0.1) p a.2 in
+    let b = then_ok (share_proof_version a.0.0) (optional_message (λ rest part. rooted_row_left (facts_by a.0.0) part) 4 a.0.1) p a.2 in
     let c = then_ok (share_proof_end (proof_by a.0.0 b.0.0)) (number_left (is_place_stated (proved_version (proof_by a.0.0 b.0.0))) 5 b.0.1) p b.2 in
     let has = end_parts a.0.0 b.0.0 c.0.0 c.0.1 p c.2 in
     let front : Front = has.before in
@@ -415,7 +415,7 @@ was_read bytes p fits e =
     let told : ShareFacts = record { col = front.path.col; own = front.names.own; parity = front.names.parity } in
     let n1 = front_back bytes front a.0.1 fits (a.1 ∙ ap (λ (o : Option Front). Ok (o, a.0.1)) has.front_is) in
     let second : optional_message (λ rest part. rooted_row_left (Some told) part) 4 a.0.1 ≡ Ok (Some row, b.0.1) =
-    ap (λ (o : Option Front). optional_message (λ rest part. rooted_row_left (told_by o) part) 4 a.0.1) (sym has.front_is)
+    ap (λ (o : Option Front). optional_message (λ rest part. rooted_row_left (facts_by o) part) 4 a.0.1) (sym has.front_is)
     ∙ b.1 ∙ ap (λ (o : Option RootedRow). Ok (o, b.0.1)) has.row_is in
     let m = message_back (λ rest part. rooted_row_left (Some told) part) 4 a.0.1 row b.0.1 (omega arith) n1.fits second in
     let n4 = rooted_row_back (Some told) m.part row m.part_fits m.read in

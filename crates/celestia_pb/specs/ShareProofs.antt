@@ -111,9 +111,9 @@ abbrev pub front_left : List ℕ → Result (Option Front × List ℕ) ℕ
 front_left bytes = then_read front_path (data_at bytes)
 
 -- what it tells of the row's proof
-abbrev pub told_by : Option Front → Option ShareFacts
-told_by None = None
-told_by (Some front) = Some (record { col = front.path.col; own = front.names.own; parity = front.names.parity })
+abbrev pub facts_by : Option Front → Option ShareFacts
+facts_by None = None
+facts_by (Some front) = Some (record { col = front.path.col; own = front.names.own; parity = front.names.parity })
 
 -- the root proof of these
 abbrev pub proof_of : Front → RootedRow → RootedParts
@@ -147,7 +147,7 @@ share_proof_version front row bytes =
 
 -- where what stands in front of it was read
 abbrev pub share_proof_row : Option Front → List ℕ → Result RootedParts ℕ
-share_proof_row front bytes = then_read (share_proof_version front) (optional_message (λ rest part. rooted_row_left (told_by front) part) 4 bytes)
+share_proof_row front bytes = then_read (share_proof_version front) (optional_message (λ rest part. rooted_row_left (facts_by front) part) 4 bytes)
 
 -- the root proof that a message is, or how many bytes are left from the first field that is wrong on
 abbrev pub share_proof_left : List ℕ → Result RootedParts ℕ

@@ -6,7 +6,7 @@ ghost use Rattle.blob_commit.specs.Proofs.{RootedParts};
 ghost use Rattle.proto_fields.specs.Spelled.{bytes_field};
 ghost use Rattle.celestia_pb.specs.Reading.{ReadsMessage};
 ghost use Rattle.celestia_pb.specs.Aunts.{optional_at};
-ghost use Rattle.celestia_pb.specs.ShareProofs.{has_share_proof, name_of, share_part, row_part, share_proof_text, is_own, names_at, front_of, front_left, told_by, proof_of, proof_by, proved_version, share_proof_end, share_proof_left, share_proof_value};
+ghost use Rattle.celestia_pb.specs.ShareProofs.{has_share_proof, name_of, share_part, row_part, share_proof_text, is_own, names_at, front_of, front_left, facts_by, proof_of, proof_by, proved_version, share_proof_end, share_proof_left, share_proof_value};
 ghost use Rattle.celestia_pb.specs.ShareProofLaws.{ShareProofIsRead, ReadIsShareProof, ShareProofIsCommon, SharePathIsCommon, RootedRowIsCommon, RowPathIsCommon};
 
 use crate::befp_entries::{DATA, data_at};
@@ -98,8 +98,8 @@ fn front_at(bytes: &[u8]) -> Result<(Option<Front>, &[u8]), usize>
 }
 
 /// What it tells of the row's proof.
-fn told_by(front: &Option<Front>) -> Option<ShareFacts>
-    ensures { result ≡ told_by front.now }
+fn facts_by(front: &Option<Front>) -> Option<ShareFacts>
+    ensures { result ≡ facts_by front.now }
 {
     match front {
         Some(front) => Some(ShareFacts {
@@ -189,7 +189,7 @@ fn share_proof_in(bytes: &[u8]) -> Result<RootedMessage, usize>
     ensures { ReadsMessage (λ proof. proof) result (share_proof_left bytes.now) }
 {
     let (front, behind) = front_at(bytes)?;
-    let (row, after) = rooted_row_at(ROW, told_by(&front), behind)?;
+    let (row, after) = rooted_row_at(ROW, facts_by(&front), behind)?;
     let proof = proof_by(front, row);
     let wanted = version_of(&proof);
     let (version, rest) = wanted_at(VERSION, wanted, after)?;

@@ -19,7 +19,7 @@ use Rattle.da_wire.proofs.WalkLemmas.{stop_here, stop_end}
 use Rattle.da_status.specs.declared.status.Status.{Status}
 use Rattle.da_following.specs.Follow.{feed_kinds, begins_with_answer, bad_feed}
 use Rattle.da_talk.specs.Talks.{IsBad}
-use Rattle.da_talk.specs.Told.{IsTold, begun, told, IsUnfit}
+use Rattle.da_talk.specs.Spoken.{AreReplies, begun, told, IsUnfit}
 use Rattle.da_attending.specs.Attended.{has_items, item_in, items_of, fits, attending}
 use Rattle.da_attending.specs.Laws.{TakesFiles, NamesUnfit, NamesBad}
 use Rattle.da_attending.proofs.FileLemmas.{HasItem, headed_kind, answered_kind, first_byte, not_first, stops_at, in_step, all_items}
@@ -42,7 +42,7 @@ first_stays [] f first fit = fit
 first_stays (g ∷ frames) f first fit = first
 
 -- frames that were replied to are headers and answers, and the first fits in front of any
-pub told_fits : (names : List Namespace) (kept : Status) (frames : List Raw) (said : List ℕ) → IsTold (attending names) kept frames said
+pub told_fits : (names : List Namespace) (kept : Status) (frames : List Raw) (said : List ℕ) → AreReplies (attending names) kept frames said
     → AllByRecursion HasItem frames × FirstFits frames
 told_fits names kept frames said (begun text is) = (tt, tt)
 told_fits names kept frames said (told before f some text so replies) =

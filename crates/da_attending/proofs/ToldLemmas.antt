@@ -7,7 +7,7 @@ use Rattle.blob_feed.specs.Feeds.{Item, heights_of}
 use Rattle.da_wire.specs.Reading.{Raw}
 use Rattle.da_status.specs.declared.status.Status.{Status}
 use Rattle.da_following.specs.Heights.{fed_by}
-use Rattle.da_talk.specs.Told.{IsTold, begun, told}
+use Rattle.da_talk.specs.Spoken.{AreReplies, begun, told}
 use Rattle.da_attending.specs.Attended.{items_of, attending}
 use Rattle.da_attending.specs.Orders.{AreLinesOf}
 use Rattle.da_attending.specs.Laws.{SaysLines}
@@ -16,7 +16,7 @@ use Rattle.da_attending.proofs.LineLemmas.{HasSaid, said_more, all_said}
 
 -- what was said to frames is what is due so far
 told_so : (names : List Namespace) (kept : Status) → IsStrictlySortedBy namespace_cmp names → (frames : List Raw) (said : List ℕ)
-    → IsTold (attending names) kept frames said → HasSaid names (items_of frames) said
+    → AreReplies (attending names) kept frames said → HasSaid names (items_of frames) said
 told_so names kept sorted frames said (begun text is) = inl (refl, is)
 told_so names kept sorted frames said (told before frame some text so replies) =
     subst (λ (l : List Item). HasSaid names l (some ++ text)) (sym (items_more before frame replies.item replies.is))

@@ -15,7 +15,7 @@ use Rattle.da_following.specs.Heights.{read_at, fed_by}
 use Rattle.da_talk.specs.declared.line.Line as line
 use Rattle.da_talk.specs.declared.talker.Talker as talker
 use Rattle.da_talk.specs.declared.talk_end.TalkEnd.{TalkEnd}
-use Rattle.da_talk.specs.Told.{HasTold}
+use Rattle.da_talk.specs.Spoken.{HasConversed}
 
 -- ---- frames
 
@@ -129,4 +129,4 @@ attending names = record {
 
 -- a talk about wanted namespaces: what was said to its frames and when, how it ended, and the status that goes with its last words
 abbrev pub Attends : {L : Type 0} → line.Ghosts L → L → L → List Namespace → Status → TalkEnd → Type 0
-Attends l old new names status ended = HasTold l (attending names) old new status status ended
+Attends l old new names status ended = HasConversed l (attending names) old new status status ended

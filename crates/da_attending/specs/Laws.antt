@@ -14,7 +14,7 @@ use Rattle.da_files.specs.Requests.{failing_from}
 use Rattle.da_following.specs.Follow.{is_followed, each_once, items_in, bad_feed, RunFeed, run_places, feed_lines, missing_count, Follows}
 use Rattle.da_following.specs.Heights.{fed_by}
 use Rattle.da_talk.specs.Talks.{IsBad}
-use Rattle.da_talk.specs.Told.{IsTold, IsUnfit}
+use Rattle.da_talk.specs.Spoken.{AreReplies, IsUnfit}
 use Rattle.da_attending.specs.Attended.{item_in, items_of, fits, EndsAttending, attending}
 use Rattle.da_attending.specs.Orders.{AreLinesOf}
 
@@ -22,7 +22,7 @@ use Rattle.da_attending.specs.Orders.{AreLinesOf}
 -- of the wanted namespaces, each once, in some order
 abbrev pub SaysLines : Type 0
 SaysLines = (names : List Namespace) (kept status : Status) (frames : List Raw) (said text : List ℕ)
-    → IsStrictlySortedBy namespace_cmp names → IsTold (attending names) kept frames said → EndsAttending names frames text status
+    → IsStrictlySortedBy namespace_cmp names → AreReplies (attending names) kept frames said → EndsAttending names frames text status
     → AreLinesOf (fed_by names (heights_of (items_of frames))) names (length (heights_of (items_of frames))) (said ++ text)
 
 -- ---- files that follow takes
@@ -49,7 +49,7 @@ pub record SaysFeed (wanted : List Namespace) (bytes w : List ℕ) (status : Sta
 abbrev pub SaysFollowed : Type 0
 SaysFollowed = (wanted : List Namespace) (bytes w : List ℕ) (status kept ended : Status) (said text : List ℕ)
     → failing_from is_followed 0 wanted ≡ None → bad_feed bytes ≡ None → Follows wanted (items_in bytes) w status
-    → IsTold (attending (each_once wanted)) kept (frames_of bytes) said → EndsAttending (each_once wanted) (frames_of bytes) text ended
+    → AreReplies (attending (each_once wanted)) kept (frames_of bytes) said → EndsAttending (each_once wanted) (frames_of bytes) text ended
     → SaysFeed wanted bytes w status (said ++ text) ended
 
 -- ---- files that it refuses
@@ -62,4 +62,4 @@ NamesUnfit = (names : List Namespace) (kept : Status) (heard said : List ℕ) (a
 -- so it is where a talk ends at a place at which no frame stands
 abbrev pub NamesBad : Type 0
 NamesBad = (names : List Namespace) (kept : Status) (heard said : List ℕ) (rest : Option (List ℕ)) (at : ℕ)
-    → IsTold (attending names) kept (frames_of heard) said → IsBad heard rest at → bad_feed heard ≡ Some at
+    → AreReplies (attending names) kept (frames_of heard) said → IsBad heard rest at → bad_feed heard ≡ Some at

@@ -4,7 +4,7 @@ ghost use Rattle.std.specs.Prelude.{◌≡◌, ◌≤◌, ◌+◌, vec_capacity}
 ghost use Rattle.da_io.specs.declared.inputs.LastCall.TheVariants as call;
 ghost use Rattle.da_io.specs.Faults.{count_on};
 ghost use Rattle.frame_payloads.specs.Payloads.{max_payload};
-ghost use Rattle.da_talk.specs.Told.{last_heard, hear_count, say_count};
+ghost use Rattle.da_talk.specs.Spoken.{last_heard, hear_count, say_count};
 ghost use Rattle.da_attending.specs.Attended.{most_missing_lines, Attends};
 ghost use Rattle.da_attending.specs.Attenders.{IsFreshAttender};
 

@@ -15,7 +15,7 @@ use Rattle.da_talk.specs.declared.talk_end.TalkEnd.{TalkEnd}
 use Rattle.da_talk.specs.declared.talk_end.TalkEnd.TheVariants.{Over, Decided, Bad, Unfit, ReadFailed, WriteFailed, TooLong, NoMemory}
 use Rattle.da_talk.specs.Events.{Event, heard_in, said_in}
 use Rattle.da_talk.specs.Talks.{AtEachWait, HasNoLong}
-use Rattle.da_talk.specs.Told.{IsTold, EndsTold, last_heard}
+use Rattle.da_talk.specs.Spoken.{AreReplies, EndsReplies, last_heard}
 use Rattle.da_conversing.specs.Courses.{IsFileOf, IsPicked, HasPicked}
 
 -- the status of a talk over the file with a number that ended so, where this status goes with the last words, if any does
@@ -46,9 +46,9 @@ pub record ToldOver {I O T : Type 0} (i : inputs.Ghosts I) (o : sink.Ghosts O) (
   pub last : i.ended now ≡ last_heard end
   pub picked : i.picked now ≡ i.picked start
   pub picks : i.picks now ≡ i.picks start
-  pub prompt : AtEachWait (λ came went. IsTold t left (frames_of came) went) events
+  pub prompt : AtEachWait (λ came went. AreReplies t left (frames_of came) went) events
   pub at_once : AtEachWait (λ came went. HasNoLong came) events
-  pub ends : EndsTold t left left (heard_in events) (said_in events) (i.rest now) end
+  pub ends : EndsReplies t left left (heard_in events) (said_in events) (i.rest now) end
 
 -- a talk over the file with a number and a name, whose last words go with a status: its pick failed, or it was picked and the talk
 -- came to its end, of which the bytes that were heard and those that are left are the file's

@@ -10,7 +10,7 @@ ghost use Rattle.da_status.specs.Statuses.{status_kind, input_count, output_coun
 ghost use Rattle.da_files.specs.Requests.{namespaces_in};
 ghost use Rattle.da_following.specs.Follow.{each_once};
 ghost use Rattle.da_words.specs.Words.{words_of};
-ghost use Rattle.da_talk.specs.Told.{hear_count, say_count};
+ghost use Rattle.da_talk.specs.Spoken.{hear_count, say_count};
 ghost use Rattle.da_attending.specs.Attended.{most_missing_lines, attending};
 ghost use Rattle.da_attending.specs.Attenders.{IsFreshAttender};
 ghost use Rattle.da_conversing.specs.Words.{is_attend};

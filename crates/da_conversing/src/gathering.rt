@@ -8,7 +8,7 @@ ghost use Rattle.da_io.specs.Faults.{count_on};
 ghost use Rattle.da_status.specs.declared.status.Status.TheVariants.{Usage};
 ghost use Rattle.da_status.specs.Statuses.{status_kind, input_count, output_count};
 ghost use Rattle.da_words.specs.Words.{words_of};
-ghost use Rattle.da_talk.specs.Told.{hear_count, say_count};
+ghost use Rattle.da_talk.specs.Spoken.{hear_count, say_count};
 ghost use Rattle.da_gathering.specs.Gatherings.{most_gathered};
 ghost use Rattle.da_gathering.specs.Gathered.{IsFreshGathering, gathering};
 ghost use Rattle.da_conversing.specs.Words.{is_gather};

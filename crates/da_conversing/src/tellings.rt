@@ -4,7 +4,7 @@ ghost use Rattle.std.specs.Prelude.{◌≡◌, ◌≢◌, ◌≤◌, ℕ};
 ghost use Rattle.da_io.specs.Faults.{max_count, count_on};
 ghost use Rattle.da_status.specs.declared.status.Status.TheVariants.{Usage};
 ghost use Rattle.da_status.specs.Statuses.{status_kind, input_count, output_count};
-ghost use Rattle.da_talk.specs.Told.{hear_count, say_count};
+ghost use Rattle.da_talk.specs.Spoken.{hear_count, say_count};
 ghost use Rattle.da_conversing.specs.Tellings.{IsStatus, IsKept};
 
 use da_status::Status;

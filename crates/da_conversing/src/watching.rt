@@ -9,7 +9,7 @@ ghost use Rattle.da_io.specs.Faults.{count_on};
 ghost use Rattle.da_status.specs.declared.status.Status.TheVariants.{Usage, NoMemory as OutOfMemory};
 ghost use Rattle.da_status.specs.Statuses.{status_kind, input_count, output_count};
 ghost use Rattle.da_words.specs.Words.{words_of};
-ghost use Rattle.da_talk.specs.Told.{hear_count, say_count};
+ghost use Rattle.da_talk.specs.Spoken.{hear_count, say_count};
 ghost use Rattle.da_watching.specs.Sizes.{most_claim, most_said};
 ghost use Rattle.light_node.specs.Plans.{PicksInside};
 ghost use Rattle.da_watching.specs.Watchers.{PicksOf, IsFreshWatcher, watching};

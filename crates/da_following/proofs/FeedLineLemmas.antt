@@ -6,7 +6,7 @@ use Rattle.std.proofs.lemmas.List.{length-append}
 use Rattle.std.proofs.lemmas.List.Elements.{filter-append}
 use Rattle.namespace_id.specs.declared.namespaces.Namespace.{Namespace}
 use Rattle.da_following.specs.declared.feed_lines.FeedText.{FeedText}
-use Rattle.da_following.specs.Follow.{RunFeed, FeedPlace, place_text, read_text, places_at, places_from, feed_lines, is_place_missing, missing_count, IsToldOf, IsToldMore}
+use Rattle.da_following.specs.Follow.{RunFeed, FeedPlace, place_text, read_text, places_at, places_from, feed_lines, is_place_missing, missing_count, IsFeedText, HasFeedMore}
 
 -- of heights the last one comes last
 pub places_last : (wanted : List Namespace) (first count : ℕ)
@@ -38,7 +38,7 @@ module _ (feed : RunFeed) where
 
   -- the next places were told
   pub left_less : (all places rest after : List FeedPlace) (start old new : FeedText) → IsLeft all start rest old
-      → rest ≡ places ++ after → IsToldMore feed places old new → IsLeft all start after new
+      → rest ≡ places ++ after → HasFeedMore feed places old new → IsLeft all start after new
   left_less all places rest after start old new left next more = record {
     lines = left.lines ∙ ap (λ (l : List FeedPlace). old.text.items ++ feed_lines feed l) next
         ∙ ap (λ (l : List ℕ). old.text.items ++ l) (lines_both places after)
@@ -49,12 +49,12 @@ module _ (feed : RunFeed) where
   }
 
   -- nothing was told
-  pub none_told : (wanted : List Namespace) (told : FeedText) → told.text.items ≡ [] → told.missing ≡ 0 → IsToldOf feed (places_from wanted 0 0) told
+  pub none_told : (wanted : List Namespace) (told : FeedText) → told.text.items ≡ [] → told.missing ≡ 0 → IsFeedText feed (places_from wanted 0 0) told
   none_told wanted told empty none = record { lines = empty; missing = none }
 
   -- one height more was told
-  pub told_more : (wanted : List Namespace) (count : ℕ) (old new : FeedText) → IsToldOf feed (places_from wanted 0 count) old
-      → IsToldMore feed (places_at wanted count) old new → IsToldOf feed (places_from wanted 0 (count + 1)) new
+  pub told_more : (wanted : List Namespace) (count : ℕ) (old new : FeedText) → IsFeedText feed (places_from wanted 0 count) old
+      → HasFeedMore feed (places_at wanted count) old new → IsFeedText feed (places_from wanted 0 (count + 1)) new
   told_more wanted count old new told more =
       let last : places_from wanted 0 (count + 1) ≡ places_from wanted 0 count ++ places_at wanted count =
       places_last wanted 0 count ∙ ap (λ (n : ℕ). places_from wanted 0 count ++ places_at wanted n) (let e : 0 + count ≡ count = omega arith in e) in

@@ -12,7 +12,7 @@ use Rattle.blob_feed.proofs.NameLemmas.{same_name}
 use Rattle.blob_feed.proofs.ZipLemmas.{get_behind}
 use Rattle.da_following.specs.declared.heights.UnderWay.{UnderWay}
 use Rattle.da_following.specs.declared.heights.Way.{Way}
-use Rattle.da_following.specs.Follow.{places_at, places_from, IsToldOf, IsToldMore}
+use Rattle.da_following.specs.Follow.{places_at, places_from, IsFeedText, HasFeedMore}
 use Rattle.da_following.specs.Heights.{said, first_said, said_at, AreSaid, read_at, fed_by, heights_left, KeepsAnswers, IsOnWay}
 use Rattle.da_following.proofs.FeedLineLemmas.{none_told, told_more}
 use Rattle.da_following.proofs.FeedStatusLemmas.{each_name}
@@ -72,7 +72,7 @@ module _ (names : List Namespace) where
     -- it is behind then
     pub way_closed : (old new : Way) (rest : List Item) (height : UnderWay) → IsOnWay names all old rest → old.height ≡ Some height
         → answers_ahead rest ≡ [] → new.height ≡ None → new.number ≡ old.number + 1
-        → IsToldMore (fed_by names all) (places_at names old.number) old.told new.told → IsOnWay names all new rest
+        → HasFeedMore (fed_by names all) (places_at names old.number) old.told new.told → IsOnWay names all new rest
     way_closed old new rest height on is none closed number more =
         let last = height_with height.header (on.before ++ answers_ahead rest) in
         let long : length (on.behind ++ last ∷ []) ≡ old.number + 1 = length-append on.behind (last ∷ []) ∙ ap (λ (n : ℕ). n + 1) (sym on.number) in
@@ -84,9 +84,9 @@ module _ (names : List Namespace) where
               ∙ ap (λ (o : Option UnderWay). (on.behind ++ last ∷ []) ++ heights_left o [] rest) (sym closed);
           number = number ∙ sym long;
           kept = subst (KeepsAnswers names []) (sym closed) tt;
-          told = subst (λ (n : ℕ). IsToldOf (fed_by names all) (places_from names 0 n) new.told) (sym long)
+          told = subst (λ (n : ℕ). IsFeedText (fed_by names all) (places_from names 0 n) new.told) (sym long)
               (told_more (fed_by names all) names old.number old.told new.told
-              (subst (λ (n : ℕ). IsToldOf (fed_by names all) (places_from names 0 n) old.told) (sym on.number) on.told) more);
+              (subst (λ (n : ℕ). IsFeedText (fed_by names all) (places_from names 0 n) old.told) (sym on.number) on.told) more);
         }
 
     -- the next height begins
@@ -102,7 +102,7 @@ module _ (names : List Namespace) where
           ∙ ap (λ (o : Option UnderWay). on.behind ++ heights_left o [] later) (sym is);
       number = number ∙ on.number;
       kept = subst (KeepsAnswers names []) (sym is) (λ name found. empty name);
-      told = subst (IsToldOf (fed_by names all) (places_from names 0 (length on.behind))) (sym told) on.told;
+      told = subst (IsFeedText (fed_by names all) (places_from names 0 (length on.behind))) (sym told) on.told;
     }
 
     -- in front of the first header an answer counts for nothing
@@ -142,7 +142,7 @@ module _ (names : List Namespace) where
           (λ name found. more name found ∙ ap (λ (o : Option (List ℕ)). option_or o (first_said before.header name (given ∷ []))) (kept name found)
           ∙ sym (said_more before.header name on.before given)
           ∙ ap (λ (h : Roots). first_said h name (on.before ++ given ∷ [])) (sym same));
-      told = subst (IsToldOf (fed_by names all) (places_from names 0 (length on.behind))) (sym told) on.told;
+      told = subst (IsFeedText (fed_by names all) (places_from names 0 (length on.behind))) (sym told) on.told;
     }
 
     -- a namespace that is found isn't one that isn't
@@ -167,8 +167,8 @@ module _ (names : List Namespace) where
     way_unwanted way later given on none = unwanted_by way later given way.height refl on none
 
     -- at the end of a run all is told
-    pub way_end : (way : Way) → IsOnWay names all way [] → way.height ≡ None → IsToldOf (fed_by names all) (places_from names 0 (length all)) way.told
+    pub way_end : (way : Way) → IsOnWay names all way [] → way.height ≡ None → IsFeedText (fed_by names all) (places_from names 0 (length all)) way.told
     unfolding heights_of
     way_end way on none =
         let whole : all ≡ on.behind = on.parts ∙ ap (λ (o : Option UnderWay). on.behind ++ heights_left o on.before []) none ∙ append-nil on.behind in
-        subst (λ (n : ℕ). IsToldOf (fed_by names all) (places_from names 0 n) way.told) (sym (ap length whole)) on.told
+        subst (λ (n : ℕ). IsFeedText (fed_by names all) (places_from names 0 n) way.told) (sym (ap length whole)) on.told

@@ -120,12 +120,12 @@ abbrev pub missing_count : RunFeed → List FeedPlace → ℕ
 missing_count feed places = length (filter (is_place_missing feed) places)
 
 -- these are the lines of places, and of so many nothing is had
-pub record IsToldOf (feed : RunFeed) (places : List FeedPlace) (told : FeedText) : Type 0 where
+pub record IsFeedText (feed : RunFeed) (places : List FeedPlace) (told : FeedText) : Type 0 where
   pub lines : told.text.items ≡ feed_lines feed places
   pub missing : told.missing ≡ missing_count feed places
 
 -- the lines of places were added
-pub record IsToldMore (feed : RunFeed) (places : List FeedPlace) (old new : FeedText) : Type 0 where
+pub record HasFeedMore (feed : RunFeed) (places : List FeedPlace) (old new : FeedText) : Type 0 where
   pub lines : new.text.items ≡ old.text.items ++ feed_lines feed places
   pub missing : new.missing ≡ old.missing + missing_count feed places
 

@@ -11,7 +11,7 @@ use Rattle.blob_feed.specs.Followers.{is_name}
 use Rattle.blob_feed.specs.Firsts.{first_read}
 use Rattle.da_following.specs.declared.heights.UnderWay.{UnderWay}
 use Rattle.da_following.specs.declared.heights.Way.{Way}
-use Rattle.da_following.specs.Follow.{RunFeed, read_text, places_from, IsToldOf}
+use Rattle.da_following.specs.Follow.{RunFeed, read_text, places_from, IsFeedText}
 
 -- ---- what lines say
 
@@ -64,7 +64,7 @@ pub record IsOnWay (names : List Namespace) (all : List Height) (way : Way) (res
   pub parts : all ≡ behind ++ heights_left way.height before rest
   pub number : way.number ≡ length behind
   pub kept : KeepsAnswers names before way.height
-  pub told : IsToldOf (fed_by names all) (places_from names 0 (length behind)) way.told
+  pub told : IsFeedText (fed_by names all) (places_from names 0 (length behind)) way.told
 
 -- how many heights began: those behind, and that under way
 abbrev pub begun : Way → ℕ

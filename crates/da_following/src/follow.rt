@@ -17,7 +17,7 @@ ghost use Rattle.da_status.specs.Outcome.{EndsAtOnce};
 ghost use Rattle.da_files.specs.Contents.{contents_of, file_of};
 ghost use Rattle.da_files.specs.Forms.{IsJudged};
 ghost use Rattle.da_files.specs.Requests.{failing_from, namespaces_in};
-ghost use Rattle.da_following.specs.Follow.{is_followed, each_once, item_of, items_in, bad_feed, RunFeed, IsToldOf, run_places, missing_count, HasAll, feed_status, Follows, FollowsAsked, follow_judged, FollowOf};
+ghost use Rattle.da_following.specs.Follow.{is_followed, each_once, item_of, items_in, bad_feed, RunFeed, IsFeedText, run_places, missing_count, HasAll, feed_status, Follows, FollowsAsked, follow_judged, FollowOf};
 ghost use Rattle.da_following.specs.Heights.{fed_by, IsOnWay, begun};
 ghost use Rattle.da_status.specs.Judging.{Judged};
 
@@ -219,7 +219,7 @@ fn told(alloc: Global, wanted: &[u8], answers: &[u8]) -> Result<FeedText, NoMemo
     requires { failing_from is_followed 0 (namespaces_in wanted.now) ≡ None }
     ensures { IfOk result (λ told. (feed : RunFeed)
         × IsFeedOf (Contains (namespaces_in wanted.now)) (items_in answers.now) feed
-        × IsToldOf feed (run_places (namespaces_in wanted.now) (items_in answers.now)) told) }
+        × IsFeedText feed (run_places (namespaces_in wanted.now) (items_in answers.now)) told) }
 {
     feed_laws::<Listed>();
     let names = wanted_set(alloc, wanted)?;

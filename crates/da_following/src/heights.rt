@@ -5,7 +5,7 @@ ghost use Rattle.std.specs.List.{AllByRecursion};
 ghost use Rattle.std.specs.Option.{option_map, option_or};
 ghost use Rattle.namespace_id.specs.declared.namespaces.Namespace.{Namespace as Name};
 ghost use Rattle.blob_feed.specs.Feeds.{Item, Height, headed, answered, answers_ahead, heights_of};
-ghost use Rattle.da_following.specs.Follow.{RunFeed, places_at, IsToldOf, IsToldMore};
+ghost use Rattle.da_following.specs.Follow.{RunFeed, places_at, IsFeedText, HasFeedMore};
 ghost use Rattle.da_following.specs.Heights.{said, first_said, said_at, AreSaid, IsOnWay, begun};
 
 use crate::feed_lines::{FeedText, append, place_text, text_of};
@@ -63,7 +63,7 @@ fn put_place(
     requires { told.old.missing ≤ length told.old.text.items }
     ensures more { OnOk result ((feed : RunFeed) →
         said_at height.now name.now ≡ option_map said (feed number name.now) →
-        IsToldMore feed ((number, name.now) ∷ []) told.old told.new) }
+        HasFeedMore feed ((number, name.now) ∷ []) told.old told.new) }
     ensures fits { OnOk result (told.new.missing ≤ length told.new.text.items) }
 {
     append(&mut told.text, place_text(number, name).as_bytes())?;
@@ -86,7 +86,7 @@ fn put_height(
 ) -> Result<(), NoMemory>
     requires { told.old.missing ≤ length told.old.text.items }
     ensures more { OnOk result ((feed : RunFeed) → AreSaid feed number height.now names.now →
-        IsToldMore feed (places_at names.now number) told.old told.new) }
+        HasFeedMore feed (places_at names.now number) told.old told.new) }
     ensures fits { OnOk result (told.new.missing ≤ length told.new.text.items) }
 {
     let mut rest = names;

@@ -21,7 +21,7 @@ use Rattle.da_status.specs.declared.status.Status.{Status}
 use Rattle.da_judging.specs.Check.{finding_of, is_ok}
 use Rattle.da_judging.specs.Repair.{lies_in}
 use Rattle.da_talk.specs.Replies.{refusal}
-use Rattle.da_talk.specs.Told.{IsTold, begun, told}
+use Rattle.da_talk.specs.Spoken.{AreReplies, begun, told}
 use Rattle.da_talk.specs.Handed.{asks_state, fed}
 use Rattle.da_gathering.specs.Gathered.{reason_for, refusal_for, IsReplyBy, gathering, refusals_in}
 use Rattle.da_talk.proofs.FedLemmas.{fed_asked, fed_other}
@@ -126,14 +126,14 @@ said_reply header frames raw had text false is r a = said_by header frames raw h
 -- ---- talks
 
 -- what was said to frames
-all_said : (header : Roots) (kept : Option Status) (frames : List Raw) (said : List ℕ) → IsTold (gathering header) kept frames said → AreSaid said (lies_in header (fed frames))
+all_said : (header : Roots) (kept : Option Status) (frames : List Raw) (said : List ℕ) → AreReplies (gathering header) kept frames said → AreSaid said (lies_in header (fed frames))
 unfolding lies_in
 all_said header kept frames said (begun text none) = subst (λ (l : List ℕ). AreSaid l 0) (sym none) said_none
 all_said header kept frames said (told before raw had text p r) =
     said_reply header before raw had text (asks_state raw) refl r.0 (all_said header kept before had p)
 
 -- so as many refusals as lies, by what is known of frames one after another
-pub refuses_each_lie : FilesAreFrames → (header : Roots) (kept : Option Status) (frames : List Raw) (said : List ℕ) → IsTold (gathering header) kept frames said
+pub refuses_each_lie : FilesAreFrames → (header : Roots) (kept : Option Status) (frames : List Raw) (said : List ℕ) → AreReplies (gathering header) kept frames said
     → refusals_in said ≡ lies_in header (fed frames)
 refuses_each_lie files header kept frames said t =
     let a = all_said header kept frames said t in

@@ -25,7 +25,7 @@ use Rattle.da_talk.specs.declared.talk_end.TalkEnd.TheVariants as ends
 use Rattle.da_talk.specs.Handed.{asks_state, fed}
 use Rattle.da_talk.specs.Reasons.{sample_reason}
 use Rattle.da_talk.specs.Replies.{refusal}
-use Rattle.da_talk.specs.Told.{IsTold, HasTold}
+use Rattle.da_talk.specs.Spoken.{AreReplies, HasConversed}
 use Rattle.da_gathering.specs.Gatherings.{Gathering, most_gathered}
 
 -- ---- frames
@@ -126,7 +126,7 @@ gathering header = record {
 
 -- a talk of a repair: what was said to its frames and when, how it ended, and the status that goes with its last words
 abbrev pub GathersTalk : {L : Type 0} → line.Ghosts L → L → L → Roots → Option Status → TalkEnd → Type 0
-GathersTalk l old new header kept ended = HasTold l (gathering header) old new kept kept ended
+GathersTalk l old new header kept ended = HasConversed l (gathering header) old new kept kept ended
 
 -- ---- what belongs to such talks
 
@@ -136,5 +136,5 @@ refusals_in bytes = length (filter (λ frame. frame.kind == refusal_kind) (frame
 
 -- what was said to frames holds as many refusals as frames are lies
 abbrev pub RefusesEachLie : Type 0
-RefusesEachLie = (header : Roots) (kept : Option Status) (frames : List Raw) (said : List ℕ) → IsTold (gathering header) kept frames said
+RefusesEachLie = (header : Roots) (kept : Option Status) (frames : List Raw) (said : List ℕ) → AreReplies (gathering header) kept frames said
     → refusals_in said ≡ lies_in header (fed frames)

@@ -4,7 +4,7 @@ ghost use Rattle.std.specs.Prelude.{◌≡◌, ◌≤◌, ◌+◌, vec_capacity}
 ghost use Rattle.da_io.specs.declared.inputs.LastCall.TheVariants as call;
 ghost use Rattle.da_io.specs.Faults.{count_on};
 ghost use Rattle.frame_payloads.specs.kinds.Message.{most_message};
-ghost use Rattle.da_talk.specs.Told.{last_heard, hear_count, say_count};
+ghost use Rattle.da_talk.specs.Spoken.{last_heard, hear_count, say_count};
 ghost use Rattle.da_gathering.specs.Gatherings.{most_gathered};
 ghost use Rattle.da_gathering.specs.Gathered.{IsFreshGathering, GathersTalk, GoesWith};
 

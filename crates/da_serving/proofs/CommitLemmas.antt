@@ -22,7 +22,7 @@ use Rattle.tx_list.specs.declared.refusals.ListError.TheVariants.{TooLarge}
 use Rattle.tx_list.specs.Payments.{PaymentParts, ListParts, IsPayment, IsLayable, blobs_of}
 use Rattle.tx_list.specs.Reserves.{list_bound}
 use Rattle.tx_list.specs.Refusals.{list_size_refusal}
-use Rattle.square_layout.specs.Refusals.{max_shares, most_told, bad_blob, empty_blob, blobs_refusal, size_refusal, layout_refusal}
+use Rattle.square_layout.specs.Refusals.{max_shares, most_named, bad_blob, empty_blob, blobs_refusal, size_refusal, layout_refusal}
 use Rattle.blob_commit.specs.Proofs.{is_range}
 use Rattle.blob_commit.proofs.WidthLemmas.{square_bound}
 use Rattle.blob_commit.proofs.CommitOwnLemmas.{range_parts}
@@ -178,7 +178,7 @@ size_fits count false why is e = ltb-false max_shares count is
 -- a list that isn't refused for its size has blobs that may take no more shares than the greatest square
 list_fits : (list : ListParts) → list_size_refusal list ≡ None → blobs_bound (blobs_of list.payments) ≤ max_shares
 list_fits list fine =
-    omega (arith, size_fits (list_bound list) (nat_lt max_shares (list_bound list)) (TooLarge (min (list_bound list) most_told)) refl fine)
+    omega (arith, size_fits (list_bound list) (nat_lt max_shares (list_bound list)) (TooLarge (min (list_bound list) most_named)) refl fine)
 
 -- blobs take no more shares than they may take together
 bound_each : (blobs : List NamedBytes) → blobs_bound blobs ≤ max_shares → AllByRecursion (λ (blob : NamedBytes). share_count_of blob ≤ max_shares) blobs

@@ -23,7 +23,7 @@ use Rattle.share_split.specs.Joined.{Piece, padding_share, piece_blobs, IsBlob, 
 use Rattle.share_split.specs.Walks.{blobs_joined}
 use Rattle.square_layout.specs.Blocks.{SquareShares}
 use Rattle.square_layout.specs.Layout.{in_order, share_count_of, start_after, end_of, placed_behind}
-use Rattle.square_layout.specs.Refusals.{max_shares, most_told}
+use Rattle.square_layout.specs.Refusals.{max_shares, most_named}
 use Rattle.square_layout.specs.Plans.{PlanParts, front, lead, planned, plan_width, square_of_plan}
 use Rattle.square_layout.proofs.BlobOrderLemmas.{All-in_order}
 use Rattle.square_layout.proofs.PlanLemmas.{length-front, lead-in_order}
@@ -65,7 +65,7 @@ use Rattle.da_serving.proofs.LineLemmas.{plan_lines}
 pub built_few : (transactions : List (List ℕ)) → IsBuilt transactions → list_bound (list_of transactions) ≤ max_shares
 built_few transactions is =
     let bound : ℕ = list_bound (list_of transactions) in
-    let within = if_none (nat_lt max_shares bound) (TooLarge (min bound most_told)) None (both_fine transactions is.accepted).1 in
+    let within = if_none (nat_lt max_shares bound) (TooLarge (min bound most_named)) None (both_fine transactions is.accepted).1 in
     ltb-false max_shares bound within.0
 
 -- ---- a proof of a blob's range

@@ -13,8 +13,8 @@ use Rattle.da_talk.specs.declared.talk_end.TalkEnd.TheVariants.{Over, Decided, B
 use Rattle.da_talk.specs.Events.{heard_in, said_in}
 use Rattle.da_talk.specs.Replies.{held_reply, replies_from, due}
 use Rattle.da_talk.specs.Talks.{Begins, EndsTalk, HasTalked, last_wait, read_count, write_count}
-use Rattle.da_talk.specs.Told.{IsTold, begun, told, IsDue, words, reply, verdict, last, HasTold, last_heard, hear_count, say_count}
-use Rattle.da_talk.specs.Steps.{IsLeft, IsPlain, IsToldAs}
+use Rattle.da_talk.specs.Spoken.{AreReplies, begun, told, IsDue, words, reply, verdict, last, HasConversed, last_heard, hear_count, say_count}
+use Rattle.da_talk.specs.Steps.{IsLeft, IsPlain, IsEndedAs}
 use Rattle.da_talk.specs.contracts.holding.HeldTalker.TheImpl.{ghosts}
 
 -- ---- what is due
@@ -59,7 +59,7 @@ module _ {T : Type 0} (t : talker.Ghosts T) (first : T) (answer : ℕ → Raw �
   left_so now (frames, text, inr (inr (inr (inr takes)))) = absurd (is.takes takes)
 
   -- what was said to frames are the replies to them
-  told_due : (frames : List Raw) (text : List ℕ) → IsTold t first frames text → text ≡ replies_from answer 0 frames
+  told_due : (frames : List Raw) (text : List ℕ) → AreReplies t first frames text → text ≡ replies_from answer 0 frames
   told_due frames text (begun some begins) = is.begins some begins
   told_due frames text (told before f some more so replies) =
       ap (λ (l : List ℕ). l ++ more) (told_due before some so)
@@ -83,11 +83,11 @@ module _ {T : Type 0} (t : talker.Ghosts T) (first : T) (answer : ℕ → Raw �
 
   module _ {L : Type 0} (l : line.Ghosts L) (old new : L) (now : T) where
     -- all that is due was said
-    all_due : (heard said : List ℕ) → IsTold t first (frames_of heard) said → said ≡ due answer heard
+    all_due : (heard said : List ℕ) → AreReplies t first (frames_of heard) said → said ≡ due answer heard
     all_due heard said so = told_due (frames_of heard) said so
 
     -- so it is a talk in which each reply is said in time
-    talked : (why : TalkEnd) (end : Ended) → (s : HasTold l t old new first now why) → Begins (due answer (heard_in s.events)) (said_in s.events)
+    talked : (why : TalkEnd) (end : Ended) → (s : HasConversed l t old new first now why) → Begins (due answer (heard_in s.events)) (said_in s.events)
         → EndsTalk (due answer) s.events (l.rest new) end → HasTalked l old new (due answer) end
     talked why end s front ends = record {
       events = s.events;
@@ -101,31 +101,31 @@ module _ {T : Type 0} (t : talker.Ghosts T) (first : T) (answer : ℕ → Raw �
     begins_all : (heard said : List ℕ) → said ≡ due answer heard → Begins (due answer heard) said
     begins_all heard said all = ([], sym all ∙ sym (append-nil said))
 
-    talked_over : HasTold l t old new first now Over → HasTalked l old new (due answer) ended.Done
+    talked_over : HasConversed l t old new first now Over → HasTalked l old new (due answer) ended.Done
     talked_over s =
         let none : s.end.text ≡ [] = (is.ends now (frames_of (heard_in s.events)) s.end.text s.end.due).1 in
         let all : said_in s.events ≡ due answer (heard_in s.events) =
         s.end.all ∙ ap (λ (l : List ℕ). s.end.before ++ l) none ∙ append-nil s.end.before ∙ all_due (heard_in s.events) s.end.before s.end.told in
         talked Over ended.Done s (begins_all (heard_in s.events) (said_in s.events) all) (all, s.end.whole, s.end.end)
 
-    talked_bad : (at : ℕ) → HasTold l t old new first now (Bad at) → HasTalked l old new (due answer) (ended.Bad at)
+    talked_bad : (at : ℕ) → HasConversed l t old new first now (Bad at) → HasTalked l old new (due answer) (ended.Bad at)
     talked_bad at s =
         let all = all_due (heard_in s.events) (said_in s.events) s.end.0 in
         talked (Bad at) (ended.Bad at) s (begins_all (heard_in s.events) (said_in s.events) all) (all, s.end.1)
 
-    talked_failed : HasTold l t old new first now ReadFailed → HasTalked l old new (due answer) ended.ReadFailed
+    talked_failed : HasConversed l t old new first now ReadFailed → HasTalked l old new (due answer) ended.ReadFailed
     talked_failed s =
         let all = all_due (heard_in s.events) (said_in s.events) s.end in
         talked ReadFailed ended.ReadFailed s (begins_all (heard_in s.events) (said_in s.events) all) all
 
-    talked_cut : HasTold l t old new first now WriteFailed → HasTalked l old new (due answer) ended.WriteFailed
+    talked_cut : HasConversed l t old new first now WriteFailed → HasTalked l old new (due answer) ended.WriteFailed
     talked_cut s =
         let cut : IsProperPrefix (said_in s.events) (due answer (heard_in s.events)) =
         subst (λ (l : List ℕ). IsProperPrefix l (due answer (heard_in s.events))) (sym s.end.all)
         (cut_due now (heard_in s.events) s.end.before s.end.text s.end.part s.end.due s.end.prefix) in
         talked WriteFailed ended.WriteFailed s (cut.0, cut.2) cut
 
-    talked_long : HasTold l t old new first now TooLong → HasTalked l old new (due answer) ended.TooLong
+    talked_long : HasConversed l t old new first now TooLong → HasTalked l old new (due answer) ended.TooLong
     talked_long s =
         let later : List ℕ = replies_from answer (length s.end.frames) s.end.later in
         talked TooLong ended.TooLong s (
@@ -135,7 +135,7 @@ module _ {T : Type 0} (t : talker.Ghosts T) (first : T) (answer : ℕ → Raw �
         ) s.end.many
 
     -- however it ends
-    pub talked_as : (why : TalkEnd) (end : Ended) → HasTold l t old new first now why → IsToldAs why end → HasTalked l old new (due answer) end
+    pub talked_as : (why : TalkEnd) (end : Ended) → HasConversed l t old new first now why → IsEndedAs why end → HasTalked l old new (due answer) end
     talked_as Over end s so = subst (HasTalked l old new (due answer)) (sym so) (talked_over s)
     talked_as Decided end s so = absurd so
     talked_as (Bad at) end s so = subst (HasTalked l old new (due answer)) (sym so) (talked_bad at s)
@@ -146,7 +146,7 @@ module _ {T : Type 0} (t : talker.Ghosts T) (first : T) (answer : ℕ → Raw �
     talked_as NoMemory end s so = absurd so
 
     -- each frame is replied to, none decides, and no memory is taken
-    pub is_plain : (why : TalkEnd) → HasTold l t old new first now why → IsPlain why
+    pub is_plain : (why : TalkEnd) → HasConversed l t old new first now why → IsPlain why
     is_plain Over s = tt
     is_plain Decided s = is.decides now (s.end.frames ++ s.end.frame ∷ []) s.end.text s.end.due
     is_plain (Bad at) s = tt
@@ -157,7 +157,7 @@ module _ {T : Type 0} (t : talker.Ghosts T) (first : T) (answer : ℕ → Raw �
     is_plain NoMemory s = is.takes s.end.takes
 
 -- which calls failed
-pub failed_as : (why : TalkEnd) (end : Ended) → IsToldAs why end → (last_heard why ≡ last_wait end) × (hear_count why ≡ read_count end) × (say_count why ≡ write_count end)
+pub failed_as : (why : TalkEnd) (end : Ended) → IsEndedAs why end → (last_heard why ≡ last_wait end) × (hear_count why ≡ read_count end) × (say_count why ≡ write_count end)
 failed_as Over end so = (sym (ap last_wait so), sym (ap read_count so), sym (ap write_count so))
 failed_as Decided end so = absurd so
 failed_as (Bad at) end so = (sym (ap last_wait so), sym (ap read_count so), sym (ap write_count so))

@@ -28,7 +28,7 @@ use Rattle.da_talk.specs.Handed.{if_within}
 use Rattle.da_talk.specs.Events.{Event, heard, said, heard_in, said_in, Grows}
 use Rattle.da_talk.specs.Talks.{Does, HasNoLong}
 use Rattle.da_talk.specs.Steps.{Waits}
-use Rattle.da_talk.specs.Told.{IsTold, begun, told, words, reply, verdict, last, EndsTold}
+use Rattle.da_talk.specs.Spoken.{AreReplies, begun, told, words, reply, verdict, last, EndsReplies}
 use Rattle.da_talk.specs.Steps.{spoken, Replied, MayHear, IsTelling, IsLeft, HasEnded}
 use Rattle.da_talk.proofs.EventLemmas.{IsLine, does_heard, does_on, heard_on, said_on, waits_on, waits_each}
 use Rattle.da_talk.proofs.LongLemmas.{long_stays}
@@ -97,7 +97,7 @@ seen_ok (Err x) read e = sym (ap ok_of e)
 module _ {L T : Type 0} (l : line.Ghosts L) (t : talker.Ghosts T) where
   -- what holds at the end of a talk
   ends_told : (old new : L) (first now : T) (events : List Event) (ended : TalkEnd) → IsLeft t first now → Does l old new events → Waits (MayHear t first) [] [] events
-      → EndsTold t first now (heard_in events) (said_in events) (l.rest new) ended → HasEnded l t old new first now ended
+      → EndsReplies t first now (heard_in events) (said_in events) (l.rest new) ended → HasEnded l t old new first now ended
   ends_told old new first now events ended left did waits end = (
     record {
       events = events;
@@ -160,12 +160,12 @@ module _ {L T : Type 0} (l : line.Ghosts L) (t : talker.Ghosts T) where
         events = s.events ++ heard bytes ∷ [];
         did = does_on l is old now new s.events (heard bytes ∷ []) s.did did;
         waits = waits_on (MayHear t first) [] [] s.events (heard bytes ∷ []) s.waits
-            ((subst (λ (b : List ℕ). IsTold t first (frames_of b) (said_in s.events)) (sym all) s.told, subst HasNoLong (sym all) s.short), tt);
+            ((subst (λ (b : List ℕ). AreReplies t first (frames_of b) (said_in s.events)) (sym all) s.told, subst HasNoLong (sym all) s.short), tt);
         taken = s.taken;
         came = heard_on s.events (heard bytes ∷ []) ∙ ap (λ (b : List ℕ). b ++ (bytes ++ [])) all ∙ ap (λ (b : List ℕ). s.taken ++ b) (append-nil bytes);
         stands = s.stands;
         short = s.short;
-        told = subst (IsTold t first (frames_of s.taken)) (sym (said_on s.events (heard bytes ∷ []) ∙ append-nil (said_in s.events))) s.told;
+        told = subst (AreReplies t first (frames_of s.taken)) (sym (said_on s.events (heard bytes ∷ []) ∙ append-nil (said_in s.events))) s.told;
         led = s.led;
         counted = s.counted;
         start = s.start;
@@ -212,7 +212,7 @@ module _ {L T : Type 0} (l : line.Ghosts L) (t : talker.Ghosts T) where
       came = came_here;
       stands = stands;
       short = push_short s.taken rest n pushed.More push (λ at e. absurd cc);
-      told = subst (λ (fs : List Raw). IsTold t first fs (said_in s.events)) (sym push.frames) s.told;
+      told = subst (λ (fs : List Raw). AreReplies t first fs (said_in s.events)) (sym push.frames) s.told;
       led = subst (t.led first state) (sym push.frames) s.led;
       counted = count ∙ s.counted ∙ ap length (sym push.frames);
       start = start ∙ s.start ∙ ap (λ (fs : List Raw). length (frames_bytes fs)) (sym push.frames);
@@ -228,7 +228,7 @@ module _ {L T : Type 0} (l : line.Ghosts L) (t : talker.Ghosts T) where
         let still = long_stays is_first are_frames here (drop n rest) at stands.fits ((push.bad at).0 refl) in
         let same : frames_of (heard_in s.events) ≡ frames_of s.taken = ap frames_of came_here ∙ still.1 ∙ push.frames in
         ends_told old now first state s.events (Bad at) (led_so first state (frames_of s.taken) s.led) s.did s.waits
-        (subst (λ (fs : List Raw). IsTold t first fs (said_in s.events)) (sym same) s.told, inl (ap why_no_frame came_here ∙ still.0))
+        (subst (λ (fs : List Raw). AreReplies t first fs (said_in s.events)) (sym same) s.told, inl (ap why_no_frame came_here ∙ still.0))
 
     -- a push ended a frame
     module _ (new : StreamParts) (m : _) (stands : StreamStands new here) (push : IsPush s.taken rest n (pushed.Frame m)) where
@@ -254,8 +254,8 @@ module _ {L T : Type 0} (l : line.Ghosts L) (t : talker.Ghosts T) where
         came = heard_said s.events text ∙ came_here;
         stands = subst (λ (p : StreamParts). StreamStands p here) (sym stream) stands;
         short = push_short s.taken rest n (pushed.Frame m) push (λ at e. absurd cc);
-        told = subst (IsTold t first (frames_of here)) (sym (said_more s.events text))
-            (subst (λ (fs : List Raw). IsTold t first fs (said_in s.events ++ text)) (sym push.frames.1) (told (frames_of s.taken) f (said_in s.events) text s.told replies));
+        told = subst (AreReplies t first (frames_of here)) (sym (said_more s.events text))
+            (subst (λ (fs : List Raw). AreReplies t first fs (said_in s.events ++ text)) (sym push.frames.1) (told (frames_of s.taken) f (said_in s.events) text s.told replies));
         led = subst (t.led first later) (sym push.frames.1) led;
         counted = omega (arith, count, s.counted, ap length push.frames.1, length-append (frames_of s.taken) (f ∷ []));
         start = start ∙ stands.count ∙ ap length (sym (are_file here stands.fits (push.frame.0 tt).1).0);
@@ -337,10 +337,10 @@ module _ {L T : Type 0} (l : line.Ghosts L) (t : talker.Ghosts T) where
 
   -- nothing more was heard: all that is due to what was heard was said
   all_told : (old now : L) (first state : T) (frames : Frames) (kept : List ℕ) → (s : IsTelling l t old now first state frames kept [])
-      → (heard_in s.events ≡ s.taken) × IsTold t first (frames_of (heard_in s.events)) (said_in s.events)
+      → (heard_in s.events ≡ s.taken) × AreReplies t first (frames_of (heard_in s.events)) (said_in s.events)
   all_told old now first state frames kept s =
       let came : heard_in s.events ≡ s.taken = s.came ∙ append-nil s.taken in
-      (came, subst (λ (b : List ℕ). IsTold t first (frames_of b) (said_in s.events)) (sym came) s.told)
+      (came, subst (λ (b : List ℕ). AreReplies t first (frames_of b) (said_in s.events)) (sym came) s.told)
 
   -- bytes couldn't be heard
   pub told_failed : (old now : L) (first state : T) (frames : Frames) (kept : List ℕ) → IsTelling l t old now first state frames kept []
@@ -385,7 +385,7 @@ module _ {L T : Type 0} (l : line.Ghosts L) (t : talker.Ghosts T) where
       (waits_on (MayHear t first) [] [] s.events (spoken text) s.waits (waits_spoken (MayHear t first) (heard_in s.events) (said_in s.events) text)) (record {
         before = said_in s.events;
         text = text;
-        told = subst (λ (b : List ℕ). IsTold t first (frames_of b) (said_in s.events)) (sym came) s.told;
+        told = subst (λ (b : List ℕ). AreReplies t first (frames_of b) (said_in s.events)) (sym came) s.told;
         due = subst (λ (b : List ℕ). t.ends first later (frames_of b) text) (sym came) ends;
         all = said_more s.events text;
         whole = ap bad_frame came ∙ whole;
@@ -405,7 +405,7 @@ module _ {L T : Type 0} (l : line.Ghosts L) (t : talker.Ghosts T) where
         text = text;
         part = part;
         due = last (said_in s.events) text (ap bad_frame came ∙ whole)
-            (subst (λ (b : List ℕ). IsTold t first (frames_of b) (said_in s.events)) (sym came) s.told)
+            (subst (λ (b : List ℕ). AreReplies t first (frames_of b) (said_in s.events)) (sym came) s.told)
             (subst (λ (b : List ℕ). t.ends first later (frames_of b) text) (sym came) ends);
         prefix = prefix;
         all = said_part s.events part;

@@ -7,7 +7,7 @@ use Rattle.da_talk.specs.declared.talker.Talker as talker
 use Rattle.da_talk.specs.declared.talk_end.TalkEnd.{TalkEnd}
 use Rattle.da_talk.specs.declared.talk_end.TalkEnd.TheVariants.{Over, Decided, Bad, Unfit, ReadFailed, WriteFailed, TooLong, NoMemory}
 use Rattle.da_talk.specs.Events.{heard_in, said_in}
-use Rattle.da_talk.specs.Told.{IsTold, begun, told, IsDue, words, reply, verdict, last, EndsTold, HasTold}
+use Rattle.da_talk.specs.Spoken.{AreReplies, begun, told, IsDue, words, reply, verdict, last, EndsReplies, HasConversed}
 
 -- what is due to frames by one talker is due by another
 pub record RepliesAlike {T U : Type 0} (t : talker.Ghosts T) (u : talker.Ghosts U) (first now : T) (one other : U) : Type 0 where
@@ -20,7 +20,7 @@ pub record RepliesAlike {T U : Type 0} (t : talker.Ghosts T) (u : talker.Ghosts 
 
 module _ {T U : Type 0} (t : talker.Ghosts T) (u : talker.Ghosts U) (first now : T) (one other : U) (alike : RepliesAlike t u first now one other) where
   -- what was said to frames
-  told_as : (frames : List Raw) (text : List ℕ) → IsTold t first frames text → IsTold u one frames text
+  told_as : (frames : List Raw) (text : List ℕ) → AreReplies t first frames text → AreReplies u one frames text
   told_as frames text (begun some begins) = begun some (alike.begins some begins)
   told_as frames text (told before f some more so replies) = told before f some more (told_as before some so) (alike.replies before f more replies)
 
@@ -34,7 +34,7 @@ module _ {T U : Type 0} (t : talker.Ghosts T) (u : talker.Ghosts U) (first now :
   due_as bytes before text (last was some whole so ends) = last was some whole (told_as (frames_of bytes) was so) (alike.ends (frames_of bytes) some ends)
 
   -- the end
-  ends_as : (heard said : List ℕ) (rest : Option (List ℕ)) (end : TalkEnd) → EndsTold t first now heard said rest end → EndsTold u one other heard said rest end
+  ends_as : (heard said : List ℕ) (rest : Option (List ℕ)) (end : TalkEnd) → EndsReplies t first now heard said rest end → EndsReplies u one other heard said rest end
   ends_as heard said rest Over e = record {
     before = e.before;
     text = e.text;
@@ -91,7 +91,7 @@ module _ {T U : Type 0} (t : talker.Ghosts T) (u : talker.Ghosts U) (first now :
   }
 
   -- a talk
-  pub talk_as : {L : Type 0} (l : line.Ghosts L) (old new : L) (end : TalkEnd) → HasTold l t old new first now end → HasTold l u old new one other end
+  pub talk_as : {L : Type 0} (l : line.Ghosts L) (old new : L) (end : TalkEnd) → HasConversed l t old new first now end → HasConversed l u old new one other end
   talk_as l old new end s = record {
     events = s.events;
     did = s.did;

@@ -5,5 +5,5 @@ pub mod Sizes
 pub mod Talks
 pub mod Handed
 pub mod Reasons
-pub mod Told
+pub mod Spoken
 pub mod Steps

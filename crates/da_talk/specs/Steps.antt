@@ -16,7 +16,7 @@ use Rattle.da_talk.specs.declared.talking.Frames.{Frames}
 use Rattle.da_talk.specs.Events.{Event, heard, said, heard_in, said_in}
 use Rattle.da_talk.specs.Handed.{if_within}
 use Rattle.da_talk.specs.Talks.{Does, HasNoLong}
-use Rattle.da_talk.specs.Told.{IsTold, HasTold, last_heard, hear_count, say_count}
+use Rattle.da_talk.specs.Spoken.{AreReplies, HasConversed, last_heard, hear_count, say_count}
 
 -- ---- what is said
 
@@ -64,7 +64,7 @@ Waits Holds came went (said bytes ∷ later) = Waits Holds came (went ++ bytes) 
 
 -- bytes may be waited for: all that is due was said, and no frame states a length above the limit
 abbrev pub MayHear : {T : Type 0} → talker.Ghosts T → T → List ℕ → List ℕ → Type 0
-MayHear t first came went = IsTold t first (frames_of came) went × HasNoLong came
+MayHear t first came went = AreReplies t first (frames_of came) went × HasNoLong came
 
 -- all was said that is due to the frames that a stream has taken, of all bytes that were heard but for these at the end, and of
 -- the frame under way the first bytes are kept
@@ -77,7 +77,7 @@ pub record IsTelling {L T : Type 0} (l : line.Ghosts L) (t : talker.Ghosts T) (o
   pub came : heard_in events ≡ taken ++ rest
   pub stands : StreamStands frames.stream taken
   pub short : HasNoLong taken
-  pub told : IsTold t first (frames_of taken) (said_in events)
+  pub told : AreReplies t first (frames_of taken) (said_in events)
   pub led : t.led first state (frames_of taken)
   pub counted : frames.count ≡ length (frames_of taken)
   pub start : frames.start ≡ length (frames_bytes (frames_of taken))
@@ -93,7 +93,7 @@ IsLeft t first now = (frames : List Raw) × (text : List ℕ)
 
 -- a talk that ended, and how it left the value
 abbrev pub HasEnded : {L T : Type 0} → line.Ghosts L → talker.Ghosts T → L → L → T → T → TalkEnd → Type 0
-HasEnded l t old new first now why = HasTold l t old new first now why × IsLeft t first now
+HasEnded l t old new first now why = HasConversed l t old new first now why × IsLeft t first now
 
 -- where a call comes to that may end a talk: on with what is kept and what it leaves of the bytes, or to the end
 abbrev pub TellsOn : {L T A : Type 0} → line.Ghosts L → talker.Ghosts T → L → L → T → T → Frames → List ℕ → (A → List ℕ) → Result A TalkEnd → Type 0
@@ -127,12 +127,12 @@ IsPlain NoMemory = ⊥
 IsPlain other = ⊤
 
 -- and how that is told
-abbrev pub IsToldAs : TalkEnd → Ended → Type 0
-IsToldAs Over end = end ≡ ended.Done
-IsToldAs Decided end = ⊥
-IsToldAs (Bad at) end = end ≡ ended.Bad at
-IsToldAs (Unfit at) end = ⊥
-IsToldAs ReadFailed end = end ≡ ended.ReadFailed
-IsToldAs WriteFailed end = end ≡ ended.WriteFailed
-IsToldAs TooLong end = end ≡ ended.TooLong
-IsToldAs NoMemory end = ⊥
+abbrev pub IsEndedAs : TalkEnd → Ended → Type 0
+IsEndedAs Over end = end ≡ ended.Done
+IsEndedAs Decided end = ⊥
+IsEndedAs (Bad at) end = end ≡ ended.Bad at
+IsEndedAs (Unfit at) end = ⊥
+IsEndedAs ReadFailed end = end ≡ ended.ReadFailed
+IsEndedAs WriteFailed end = end ≡ ended.WriteFailed
+IsEndedAs TooLong end = end ≡ ended.TooLong
+IsEndedAs NoMemory end = ⊥

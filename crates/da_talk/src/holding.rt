@@ -3,7 +3,7 @@
 ghost use Rattle.std.specs.Prelude.{◌≡◌, ◌≤◌, length, vec_capacity};
 ghost use Rattle.da_io.specs.Faults.{count_on};
 ghost use Rattle.da_talk.specs.Replies.{most_reply, held_reply, due};
-ghost use Rattle.da_talk.specs.Steps.{IsPlain, IsToldAs};
+ghost use Rattle.da_talk.specs.Steps.{IsPlain, IsEndedAs};
 ghost use Rattle.da_talk.specs.Talks.{HasTalked, last_wait, read_count, write_count};
 
 use crate::asking::asked_in;
@@ -98,7 +98,7 @@ impl Talker for Held {
 /// How a talk of replies alone ended.
 fn ended(end: TalkEnd) -> Ended
     requires { IsPlain end }
-    ensures { IsToldAs end result }
+    ensures { IsEndedAs end result }
 {
     match end {
         TalkEnd::Over => Ended::Done,

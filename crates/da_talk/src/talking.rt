@@ -8,7 +8,7 @@ ghost use Rattle.da_wire.specs.Reading.{Raw, raw_of};
 ghost use Rattle.da_wire.specs.Frames.{ok_of};
 ghost use Rattle.da_wire.specs.Streams.{offset_of};
 ghost use Rattle.da_talk.specs.Talks.{Does};
-ghost use Rattle.da_talk.specs.Told.{HasTold, last_heard, hear_count, say_count};
+ghost use Rattle.da_talk.specs.Spoken.{HasConversed, last_heard, hear_count, say_count};
 ghost use Rattle.da_talk.specs.Steps.{spoken, Says, SaysDue, Replies, IsTelling, HasEnded, TellsTalk, HasHeardAll, say_faults};
 
 use crate::frames::HEAD_SIZE;
@@ -303,7 +303,7 @@ pub fn talk<L: Line, T: Talker>(
     requires longest { longest ≡ T.longest talker.old }
     requires capacity { 5 + longest ≤ vec_capacity room.old }
     requires text { T.most talker.old ≤ vec_capacity text.old }
-    ensures talk { HasTold L.Line T.Talker line.old line.new talker.old talker.new result }
+    ensures talk { HasConversed L.Line T.Talker line.old line.new talker.old talker.new result }
 
     // A failure is answered exactly where one happened, and it was the last call.
     ensures ended { L.ended line.old ≡ call.Fine → L.ended line.new ≡ last_heard result }

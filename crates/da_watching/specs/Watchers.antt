@@ -17,7 +17,7 @@ use Rattle.da_status.specs.declared.status.Status.{Status}
 use Rattle.da_talk.specs.declared.line.Line as line
 use Rattle.da_talk.specs.declared.talker.Talker as talker
 use Rattle.da_talk.specs.declared.talk_end.TalkEnd.{TalkEnd}
-use Rattle.da_talk.specs.Told.{HasTold}
+use Rattle.da_talk.specs.Spoken.{HasConversed}
 use Rattle.da_talk.specs.Replies.{refusal}
 use Rattle.da_watching.specs.Sizes.{most_claim, most_said}
 use Rattle.da_talk.specs.Reasons.{sample_reason}
@@ -82,4 +82,4 @@ watching header plan = record {
 
 -- a talk with a watcher: what was said to its frames and when, how it ended, and the status that goes with its last words
 abbrev pub HasWatched : {L : Type 0} → line.Ghosts L → L → L → Roots → List Cell → Status → TalkEnd → Type 0
-HasWatched l old new header plan status ended = HasTold l (watching header plan) old new status status ended
+HasWatched l old new header plan status ended = HasConversed l (watching header plan) old new status status ended

@@ -3,7 +3,7 @@
 ghost use Rattle.std.specs.Prelude.{◌≡◌, ◌≤◌, ◌+◌, vec_capacity};
 ghost use Rattle.da_io.specs.declared.inputs.LastCall.TheVariants as call;
 ghost use Rattle.da_io.specs.Faults.{count_on};
-ghost use Rattle.da_talk.specs.Told.{last_heard, hear_count, say_count};
+ghost use Rattle.da_talk.specs.Spoken.{last_heard, hear_count, say_count};
 ghost use Rattle.da_watching.specs.Sizes.{most_claim, most_said};
 ghost use Rattle.da_watching.specs.Watchers.{IsFreshWatcher, HasWatched};
 

@@ -21,7 +21,7 @@ use Rattle.square_layout.specs.declared.laying.LayError.{LayError}
 use Rattle.square_layout.specs.declared.laying.LayError.TheVariants.{BadBlob, EmptyBlob, BadWidth, TooLarge, WidthTooSmall}
 use Rattle.square_layout.specs.Blocks.{BlockParts}
 use Rattle.square_layout.specs.Layout.{put_in, in_order, share_count_of, start_after, end_of, compact_end, needed}
-use Rattle.square_layout.specs.Refusals.{bad_blob, empty_blob, size_refusal, width_refusal, max_shares, most_told, layout_refusal}
+use Rattle.square_layout.specs.Refusals.{bad_blob, empty_blob, size_refusal, width_refusal, max_shares, most_named, layout_refusal}
 use Rattle.square_layout.proofs.PlaceLemmas.{start_after-near}
 use Rattle.square_layout.proofs.LaidLemmas.{square_fits}
 use Rattle.square_layout.proofs.BlobOrderLemmas.{All-in_order}
@@ -148,7 +148,7 @@ size-none k count width h =
     let square : k * k ≤ max_shares = square_fits k width in
     let small : nat_lt max_shares count ≡ false = grind (arith, nat_tests) in
     let holds : nat_lt (k * k) count ≡ false = grind (arith, nat_tests) in
-    ap (λ (b : Bool). if b then Some (TooLarge (min count most_told)) else width_refusal count k) small
+    ap (λ (b : Bool). if b then Some (TooLarge (min count most_named)) else width_refusal count k) small
     ∙ ap (λ (b : Bool). if b then Some (WidthTooSmall count) else (if is_width k then None else Some BadWidth)) holds
     ∙ ap (λ (b : Bool). if b then None else Some BadWidth) width
 

@@ -5,7 +5,7 @@ use Rattle.std.proofs.lemmas.List.{drop-map, drop_all, length-map}
 use Rattle.share_split.specs.Blobs.{NamedBytes}
 use Rattle.square_layout.specs.Blocks.{HaveBytes}
 use Rattle.square_layout.specs.Layout.{share_count_of, start_after, end_of}
-use Rattle.square_layout.specs.Refusals.{most_told}
+use Rattle.square_layout.specs.Refusals.{most_named}
 use Rattle.square_layout.proofs.PlaceLemmas.{end_of-ge, end_of-next}
 
 -- the blobs that are borrowed
@@ -30,30 +30,30 @@ pub have_bytes-next : (blobs others : List NamedBytes) (b : NamedBytes) → blob
 have_bytes-next blobs others b e h = let both : HaveBytes (b ∷ others) = subst HaveBytes e h in both
 
 -- an end that is told, from one that is told
-pub told_end : (end : ℕ) (blobs : List NamedBytes) → min (end_of (min end most_told) blobs) most_told ≡ min (end_of end blobs) most_told
-told_end end blobs = elim (cases_lt most_told end) [
+pub told_end : (end : ℕ) (blobs : List NamedBytes) → min (end_of (min end most_named) blobs) most_named ≡ min (end_of end blobs) most_named
+told_end end blobs = elim (cases_lt most_named end) [
   | inl above ↦
-      let low : min end most_told ≡ most_told = omega (arith, above) in
-      let left = end_of-ge most_told blobs in
+      let low : min end most_named ≡ most_named = omega (arith, above) in
+      let left = end_of-ge most_named blobs in
       let right = end_of-ge end blobs in
-      ap (λ (n : ℕ). min (end_of n blobs) most_told) low ∙ omega (arith, left, right, above)
+      ap (λ (n : ℕ). min (end_of n blobs) most_named) low ∙ omega (arith, left, right, above)
   | inr within ↦
-      let same : min end most_told ≡ end = omega (arith, within) in ap (λ (n : ℕ). min (end_of n blobs) most_told) same
+      let same : min end most_named ≡ end = omega (arith, within) in ap (λ (n : ℕ). min (end_of n blobs) most_named) same
 ]
 
 -- one blob more is counted
 pub counted_on : (end new whole : ℕ) (blob : NamedBytes) (blobs others : List NamedBytes) → blobs ≡ blob ∷ others
-    → new ≡ min (start_after end blob + share_count_of blob) most_told
-    → min (end_of end blobs) most_told ≡ whole → min (end_of new others) most_told ≡ whole
+    → new ≡ min (start_after end blob + share_count_of blob) most_named
+    → min (end_of end blobs) most_named ≡ whole → min (end_of new others) most_named ≡ whole
 counted_on end new whole blob blobs others left is so_far =
-    ap (λ (n : ℕ). min (end_of n others) most_told) is
+    ap (λ (n : ℕ). min (end_of n others) most_named) is
     ∙ told_end (start_after end blob + share_count_of blob) others
-    ∙ sym (ap (λ (n : ℕ). min n most_told) (ap (end_of end) left ∙ end_of-next end blob others))
+    ∙ sym (ap (λ (n : ℕ). min n most_named) (ap (end_of end) left ∙ end_of-next end blob others))
     ∙ so_far
 
 -- all blobs are counted
-pub counted_all : (end whole : ℕ) (blobs : List NamedBytes) → blobs ≡ [] → end ≤ most_told → min (end_of end blobs) most_told ≡ whole → end ≡ whole
+pub counted_all : (end whole : ℕ) (blobs : List NamedBytes) → blobs ≡ [] → end ≤ most_named → min (end_of end blobs) most_named ≡ whole → end ≡ whole
 unfolding end_of
 counted_all end whole blobs none fits so_far =
-    let here : min (end_of end []) most_told ≡ end = omega (arith, fits) in
-    sym here ∙ sym (ap (λ (l : List NamedBytes). min (end_of end l) most_told) none) ∙ so_far
+    let here : min (end_of end []) most_named ≡ end = omega (arith, fits) in
+    sym here ∙ sym (ap (λ (l : List NamedBytes). min (end_of end l) most_named) none) ∙ so_far

@@ -15,7 +15,7 @@ use Rattle.share_split.proofs.Writing.UnitLaws.{unit_shares_are_counted}
 use Rattle.std.specs.List.{AllByRecursion}
 use Rattle.square_layout.specs.Blocks.{BlockParts, HaveBytes, SquareShares}
 use Rattle.square_layout.specs.Layout.{put_in, in_order, share_count_of, start_after, end_of, gap_behind, placed_behind, holding_from, laid}
-use Rattle.square_layout.specs.Refusals.{max_shares, most_told}
+use Rattle.square_layout.specs.Refusals.{max_shares, most_named}
 use Rattle.square_layout.specs.Plans.{PlanParts, starts_after, ArePlaces, AreAtMost, blobs_bound, bound, front, lead, planned, plan_width, square_of_plan, plan_of}
 use Rattle.square_layout.proofs.BlobOrderLemmas.{All-in_order}
 use Rattle.square_layout.proofs.CountLemmas.{lent}
@@ -83,21 +83,21 @@ plan_fits plan = omega (arith, end_of-bound plan.reserve (in_order plan.blobs), 
 
 -- one blob more is counted
 pub bound_on : (most new whole : ℕ) (blob : NamedBytes) (blobs others : List NamedBytes) → blobs ≡ blob ∷ others
-    → new ≡ min (most + (share_count_of blob + (subtree_width_of (share_count_of blob) - 1))) most_told
-    → min (most + blobs_bound blobs) most_told ≡ whole → min (new + blobs_bound others) most_told ≡ whole
+    → new ≡ min (most + (share_count_of blob + (subtree_width_of (share_count_of blob) - 1))) most_named
+    → min (most + blobs_bound blobs) most_named ≡ whole → min (new + blobs_bound others) most_named ≡ whole
 unfolding blobs_bound
 bound_on most new whole blob blobs others left is so_far =
     let next : blobs_bound blobs ≡ share_count_of blob + (subtree_width_of (share_count_of blob) - 1) + blobs_bound others = ap blobs_bound left in
     omega (arith, next, is, so_far)
 
 -- all blobs are counted
-pub bound_all : (most whole : ℕ) (blobs : List NamedBytes) → blobs ≡ [] → most ≤ most_told → min (most + blobs_bound blobs) most_told ≡ whole → most ≡ whole
+pub bound_all : (most whole : ℕ) (blobs : List NamedBytes) → blobs ≡ [] → most ≤ most_named → min (most + blobs_bound blobs) most_named ≡ whole → most ≡ whole
 unfolding blobs_bound
 bound_all most whole blobs none fits so_far =
     let zero : blobs_bound blobs ≡ 0 = ap blobs_bound none in omega (arith, zero, fits, so_far)
 
 -- what the width is for is told, where it isn't more than the greatest square has
-pub bound_told : (plan : PlanParts) (blobs : List NamedBytes) (most : ℕ) → blobs ≡ plan.blobs → most ≡ min (plan.reserve + blobs_bound blobs) most_told
+pub bound_told : (plan : PlanParts) (blobs : List NamedBytes) (most : ℕ) → blobs ≡ plan.blobs → most ≡ min (plan.reserve + blobs_bound blobs) most_named
     → bound plan ≤ max_shares → most ≡ bound plan
 bound_told plan blobs most same is few = omega (arith, is, ap blobs_bound same, few)
 

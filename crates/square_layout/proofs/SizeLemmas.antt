@@ -7,7 +7,7 @@ use Rattle.namespace_id.specs.Cells.{is_width}
 use Rattle.namespace_id.specs.Sizes.{greatest_width}
 use Rattle.share_split.specs.Blobs.{NamedBytes}
 use Rattle.square_layout.specs.Layout.{end_of}
-use Rattle.square_layout.specs.Refusals.{most_told, max_shares}
+use Rattle.square_layout.specs.Refusals.{most_named, max_shares}
 use Rattle.square_layout.proofs.CountLemmas.{told_end}
 
 -- ---- how many shares
@@ -17,23 +17,23 @@ abbrev pub at_least_one : ℕ → ℕ
 at_least_one n = if n == 0 then 1 else n
 
 -- a sum of counts that are told is told
-told_sum : (a b : ℕ) → min (min a most_told + min b most_told) most_told ≡ min (a + b) most_told
+told_sum : (a b : ℕ) → min (min a most_named + min b most_named) most_named ≡ min (a + b) most_named
 told_sum a b = omega arith
 
 -- a count that is told, or 1
-told_one : (n : ℕ) → max (min n most_told) 1 ≡ min (at_least_one n) most_told
+told_one : (n : ℕ) → max (min n most_named) 1 ≡ min (at_least_one n) most_named
 told_one n = elim (cases_lt 0 n) [
   | inl some ↦ (let same : at_least_one n ≡ n = grind (arith, nat_tests) in omega (arith, same, some))
-  | inr none ↦ (let zero_is : n ≡ 0 = omega (arith, none) in ap (λ (k : ℕ). max (min k most_told) 1) zero_is ∙ sym (ap (λ (k : ℕ). min (at_least_one k) most_told) zero_is))
+  | inr none ↦ (let zero_is : n ≡ 0 = omega (arith, none) in ap (λ (k : ℕ). max (min k most_named) 1) zero_is ∙ sym (ap (λ (k : ℕ). min (at_least_one k) most_named) zero_is))
 ]
 
 -- how many shares a layout has is told, up to the greatest count
-pub needed_told : (a b x y sum end : ℕ) (blobs others : List NamedBytes) → x ≡ min a most_told → y ≡ min b most_told
-    → sum ≡ min (x + y) most_told → end ≡ min (end_of sum others) most_told → others ≡ blobs
-    → max end 1 ≡ min (at_least_one (end_of (a + b) blobs)) most_told
+pub needed_told : (a b x y sum end : ℕ) (blobs others : List NamedBytes) → x ≡ min a most_named → y ≡ min b most_named
+    → sum ≡ min (x + y) most_named → end ≡ min (end_of sum others) most_named → others ≡ blobs
+    → max end 1 ≡ min (at_least_one (end_of (a + b) blobs)) most_named
 needed_told a b x y sum end blobs others ex ey es ee same =
     ap (λ (n : ℕ). max n 1)
-    (ee ∙ ap₂ (λ (s : ℕ) (l : List NamedBytes). min (end_of s l) most_told) (es ∙ ap₂ (λ (m n : ℕ). min (m + n) most_told) ex ey ∙ told_sum a b) same
+    (ee ∙ ap₂ (λ (s : ℕ) (l : List NamedBytes). min (end_of s l) most_named) (es ∙ ap₂ (λ (m n : ℕ). min (m + n) most_named) ex ey ∙ told_sum a b) same
     ∙ told_end (a + b) blobs)
     ∙ told_one (end_of (a + b) blobs)
 

@@ -26,7 +26,7 @@ use Rattle.namespace_id.proofs.ShareLemmas.{AreShares-append}
 use Rattle.namespace_id.proofs.RefusalLemmas.{if_none}
 use Rattle.square_layout.specs.Layout.{in_order, share_count_of, start_after, gap_behind, placed, placed_behind, compact_end, laid, needed, holds_shares, holding_from, width_for, block_square}
 use Rattle.square_layout.specs.Plans.{PlanParts, IsPlan, bound, front, lead, planned, plan_width, square_of_plan}
-use Rattle.square_layout.specs.Refusals.{max_shares, most_told, blobs_refusal, width_refusal, size_refusal, layout_refusal}
+use Rattle.square_layout.specs.Refusals.{max_shares, most_named, blobs_refusal, width_refusal, size_refusal, layout_refusal}
 use Rattle.square_layout.proofs.AcceptedLemmas.{no_refusal}
 use Rattle.square_layout.proofs.BlobOrderLemmas.{All-in_order}
 use Rattle.square_layout.proofs.LaidLemmas.{length-padded, laid_fits}
@@ -74,11 +74,11 @@ pub size_passes : (width : Option ℕ) (count : ℕ) → size_refusal width coun
     → (is_width (option_map_or (λ k. k) width (holding_from 9 1 count)) ≡ true)
     × (count ≤ option_map_or (λ k. k) width (holding_from 9 1 count) * option_map_or (λ k. k) width (holding_from 9 1 count))
 size_passes None count h =
-    let fits = if_none (nat_lt max_shares count) (TooLarge (min count most_told)) None h in
+    let fits = if_none (nat_lt max_shares count) (TooLarge (min count most_named)) None h in
     let few : count ≤ most_shares = grind (arith, nat_tests, fits.0) in
     (least_is_width count, holding_holds count few)
 size_passes (Some k) count h =
-    let fits = if_none (nat_lt max_shares count) (TooLarge (min count most_told)) (width_refusal count k) h in
+    let fits = if_none (nat_lt max_shares count) (TooLarge (min count most_named)) (width_refusal count k) h in
     let asked = if_none (nat_lt (k * k) count) (WidthTooSmall count) (if is_width k then None else Some BadWidth) fits.1 in
     let holds : count ≤ k * k = grind (arith, nat_tests, asked.0) in
     (if_passes (is_width k) BadWidth asked.1, holds)

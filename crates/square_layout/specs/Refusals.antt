@@ -36,8 +36,8 @@ abbrev pub max_shares : ℕ
 max_shares = most_shares
 
 -- a greater number of shares isn't told
-abbrev pub most_told : ℕ
-most_told = 2 ^ 64 - 1
+abbrev pub most_named : ℕ
+most_named = 2 ^ 64 - 1
 
 -- why a square of the width k doesn't hold so many shares
 abbrev pub width_refusal : ℕ → ℕ → Option LayError
@@ -48,7 +48,7 @@ width_refusal count k =
 -- why no square holds so many shares, or not the one whose width is asked for
 abbrev pub size_refusal : Option ℕ → ℕ → Option LayError
 size_refusal width count =
-    if nat_lt max_shares count then Some (TooLarge (min count most_told)) else
+    if nat_lt max_shares count then Some (TooLarge (min count most_named)) else
     option_map_or (width_refusal count) width None
 
 -- ---- the block

@@ -4,7 +4,7 @@ ghost use Rattle.std.specs.Prelude.{◌≡◌, ◌+◌, ◌-◌, ◌≤◌, ◌^
 ghost use Rattle.share_split.specs.Widths.{subtree_width_of};
 ghost use Rattle.square_layout.specs.Blocks.{HaveBytes};
 ghost use Rattle.square_layout.specs.Layout.{share_count_of, start_after, end_of, in_order, needed};
-ghost use Rattle.square_layout.specs.Refusals.{most_told};
+ghost use Rattle.square_layout.specs.Refusals.{most_named};
 
 use crate::Block;
 use share_split::{Blob, blob_share_count, subtree_width, unit_share_count};
@@ -34,7 +34,7 @@ pub(crate) fn blob_bound(blob: &Blob) -> u64
 /// Celestia specifications, "Square Layout".
 pub fn start_after(end: u64, blob: &Blob) -> u64
     requires { 1 ≤ length blob.now.bytes }
-    ensures { result ≡ min (start_after end blob.now) most_told }
+    ensures { result ≡ min (start_after end blob.now) most_named }
 {
     let width = subtree_width(share_count_of(blob));
     end.div_ceil(width).saturating_mul(width)
@@ -43,7 +43,7 @@ pub fn start_after(end: u64, blob: &Blob) -> u64
 /// Where a blob ends if what precedes it ends at `end`; 2^64 - 1 for any greater place. Takes no memory.
 pub fn end_after(end: u64, blob: &Blob) -> u64
     requires { 1 ≤ length blob.now.bytes }
-    ensures { result ≡ min (start_after end blob.now + share_count_of blob.now) most_told }
+    ensures { result ≡ min (start_after end blob.now + share_count_of blob.now) most_named }
 {
     start_after(end, blob).saturating_add(share_count_of(blob))
 }
@@ -52,7 +52,7 @@ pub fn end_after(end: u64, blob: &Blob) -> u64
 /// place.
 pub(crate) fn end_of(end: u64, blobs: &[&Blob]) -> u64
     requires { HaveBytes (map (λ blob. blob.now) blobs.now) }
-    ensures { result ≡ min (end_of end (map (λ blob. blob.now) blobs.now)) most_told }
+    ensures { result ≡ min (end_of end (map (λ blob. blob.now) blobs.now)) most_named }
 {
     let mut end = end;
     for blob in blobs {
@@ -66,7 +66,7 @@ pub(crate) fn end_of(end: u64, blobs: &[&Blob]) -> u64
 pub(crate) fn needed(block: &Block, order: &[&Blob]) -> u64
     requires order { map (λ blob. blob.now) order.now ≡ in_order block.now.blobs }
     requires some { HaveBytes (map (λ blob. blob.now) order.now) }
-    ensures { result ≡ min (needed block.now) most_told }
+    ensures { result ≡ min (needed block.now) most_named }
 {
     let units = unit_share_count(&block.units);
     let compact = units.saturating_add(unit_share_count(&block.pay_units));

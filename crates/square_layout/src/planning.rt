@@ -7,7 +7,7 @@ ghost use Rattle.share_split.specs.Joined.{padding_share};
 ghost use Rattle.square_layout.specs.Blocks.{HaveBytes};
 ghost use Rattle.square_layout.specs.Layout.{end_of, placed_behind};
 ghost use Rattle.square_layout.specs.Plans.{blobs_bound, front, lead, square_of_plan};
-ghost use Rattle.square_layout.specs.Refusals.{max_shares, most_told};
+ghost use Rattle.square_layout.specs.Refusals.{max_shares, most_named};
 
 use crate::Square;
 use crate::counting::blob_bound;
@@ -64,7 +64,7 @@ fn put_behind(reserve: u64, order: &[&Blob], out: &mut Vec<Share>) -> Result<(),
 /// docs/RULES.md, "A block of the network".
 pub fn plan_bound(reserve: u64, blobs: &[&Blob]) -> u64
     requires { HaveBytes (map (λ blob. blob.now) blobs.now) }
-    ensures { result ≡ min (reserve + blobs_bound (map (λ blob. blob.now) blobs.now)) most_told }
+    ensures { result ≡ min (reserve + blobs_bound (map (λ blob. blob.now) blobs.now)) most_named }
 {
     let mut most = reserve;
     for blob in blobs {

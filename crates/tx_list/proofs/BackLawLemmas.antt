@@ -9,7 +9,7 @@ use Rattle.namespace_id.specs.declared.shares.Share.{Share}
 use Rattle.namespace_id.specs.Shares.{share_of}
 use Rattle.namespace_id.proofs.RefusalLemmas.{if_none}
 use Rattle.square_layout.specs.Blocks.{SquareShares}
-use Rattle.square_layout.specs.Refusals.{max_shares, most_told}
+use Rattle.square_layout.specs.Refusals.{max_shares, most_named}
 use Rattle.tx_list.specs.declared.refusals.ListError.{ListError}
 use Rattle.tx_list.specs.declared.refusals.ListError.TheVariants.{TooLarge}
 use Rattle.tx_list.specs.declared.refusals.BackError.TheVariants.{Unlike}
@@ -35,7 +35,7 @@ laid_list : (transactions : List (List ℕ)) → read_refusal transactions ≡ N
     → IsLaidList (list_of transactions)
 laid_list transactions taken fits named =
     let bound : ℕ = list_bound (list_of transactions) in
-    let few = if_none (nat_lt max_shares bound) (TooLarge (min bound most_told)) None fits in
+    let few = if_none (nat_lt max_shares bound) (TooLarge (min bound most_named)) None fits in
     record {
       few = few_by bound few.0;
       payments = payments_kept transactions (all_taken 0 false transactions taken);

@@ -16,7 +16,7 @@ use Rattle.share_split.specs.Joined.{padding_of, padding_share}
 use Rattle.square_layout.specs.declared.laying.LayError.TheVariants.{BadBlob, EmptyBlob, TooLarge, WidthTooSmall, BadWidth}
 use Rattle.square_layout.specs.Blocks.{BlockParts, HaveBytes, IsSquare}
 use Rattle.square_layout.specs.Layout.{in_order, share_count_of, start_after, end_of, gap_behind, placed_behind, compact_end, laid, needed}
-use Rattle.square_layout.specs.Refusals.{max_shares, most_told, bad_blob, empty_blob, width_refusal, size_refusal}
+use Rattle.square_layout.specs.Refusals.{max_shares, most_named, bad_blob, empty_blob, width_refusal, size_refusal}
 use Rattle.square_layout.specs.Plans.{PlanParts, front, lead, planned, plan_width}
 use Rattle.square_layout.proofs.AcceptedLemmas.{accepted_is}
 use Rattle.square_layout.proofs.LaidLemmas.{needed_is, square_fits}
@@ -134,7 +134,7 @@ no_empty_blob i (blob ∷ blobs) some =
 -- a width that holds so many shares isn't refused
 size_passes : (k count : ℕ) → is_width k ≡ true → count ≤ k * k → size_refusal (Some k) count ≡ None
 size_passes k count width fits =
-    ap (λ (b : Bool). cond b (Some (TooLarge (min count most_told))) (width_refusal count k))
+    ap (λ (b : Bool). cond b (Some (TooLarge (min count most_named))) (width_refusal count k))
     (le-ltb max_shares count (omega (arith, fits, square_fits k width)))
     ∙ ap₂ (λ (a b : Bool). cond a (Some (WidthTooSmall count)) (cond b None (Some BadWidth))) (le-ltb (k * k) count fits) width
 

@@ -9,7 +9,7 @@ use Rattle.share_split.specs.Blobs.{NamedBytes, count_from}
 use Rattle.share_split.specs.Units.{unit_share_count}
 use Rattle.square_layout.specs.Blocks.{BlockParts, HaveBytes}
 use Rattle.square_layout.specs.Layout.{in_order, share_count_of, start_after, end_of, laid}
-use Rattle.square_layout.specs.Refusals.{max_shares, most_told}
+use Rattle.square_layout.specs.Refusals.{max_shares, most_named}
 use Rattle.square_layout.specs.Plans.{PlanParts, starts_after, blobs_bound, planned, plan_width, square_of_plan}
 use Rattle.square_layout.proofs.PlaceLemmas.{end_of-ge}
 use Rattle.square_layout.proofs.PlanLemmas.{plan_in, end_of-bound, most-in_order, planned_is_laid}
@@ -90,7 +90,7 @@ pub ends_within : (reserve : ℕ) (blobs : List NamedBytes) → end_of reserve (
 ends_within reserve blobs = omega (arith, end_of-bound reserve (in_order blobs), most-in_order blobs)
 
 -- so they fit where that is few
-pub ends_fit : (reserve most : ℕ) (blobs : List NamedBytes) → most ≡ min (reserve + blobs_bound blobs) most_told → most ≤ max_shares
+pub ends_fit : (reserve most : ℕ) (blobs : List NamedBytes) → most ≡ min (reserve + blobs_bound blobs) most_named → most ≤ max_shares
     → end_of reserve (in_order blobs) ≤ max_shares
 ends_fit reserve most blobs is few = omega (arith, ends_within reserve blobs, is, few)
 

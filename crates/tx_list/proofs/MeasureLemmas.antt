@@ -9,7 +9,7 @@ use Rattle.std.proofs.lemmas.Option.{slice_get_within, slice_get-get_or, get_or_
 use Rattle.namespace_id.specs.declared.shares.Share.{Share}
 use Rattle.share_split.specs.Blobs.{NamedBytes}
 use Rattle.square_layout.specs.Plans.{blobs_bound}
-use Rattle.square_layout.specs.Refusals.{most_told}
+use Rattle.square_layout.specs.Refusals.{most_named}
 use Rattle.tx_list.specs.declared.measuring.Measure.{Measure}
 use Rattle.tx_list.specs.Payments.{blobs_of}
 use Rattle.tx_list.specs.Unwrapped.{wrapped_tx}
@@ -25,19 +25,19 @@ bound-append (blob ∷ xs) ys = omega (arith, bound-append xs ys)
 
 -- what was measured, and blobs behind it
 abbrev pub with : Measure → List NamedBytes → Measure
-with all blobs = record { bound = min (all.bound + blobs_bound blobs) most_told; named = all.named && list_all is_named_again blobs }
+with all blobs = record { bound = min (all.bound + blobs_bound blobs) most_named; named = all.named && list_all is_named_again blobs }
 
 both_named : (a b c : Bool) → (a && (b && c)) ≡ ((a && b) && c)
 both_named true b c = refl
 both_named false b c = refl
 
 -- the next ones are measured
-pub with_more : (all next some : Measure) (xs rest : List NamedBytes) (whole : Measure) → some ≡ measure_of xs → next.bound ≡ min (all.bound + some.bound) most_told
+pub with_more : (all next some : Measure) (xs rest : List NamedBytes) (whole : Measure) → some ≡ measure_of xs → next.bound ≡ min (all.bound + some.bound) most_named
     → next.named ≡ (all.named && some.named) → with all (xs ++ rest) ≡ whole → with next rest ≡ whole
 with_more all next some xs rest whole is bound named so_far =
-    let own : some.bound ≡ min (blobs_bound xs) most_told = ap (λ (m : Measure). m.bound) is in
+    let own : some.bound ≡ min (blobs_bound xs) most_named = ap (λ (m : Measure). m.bound) is in
     let own_named : some.named ≡ list_all is_named_again xs = ap (λ (m : Measure). m.named) is in
-    let sum : min (next.bound + blobs_bound rest) most_told ≡ min (all.bound + blobs_bound (xs ++ rest)) most_told =
+    let sum : min (next.bound + blobs_bound rest) most_named ≡ min (all.bound + blobs_bound (xs ++ rest)) most_named =
     omega (arith, own, bound, bound-append xs rest) in
     let each : (next.named && list_all is_named_again rest) ≡ (all.named && list_all is_named_again (xs ++ rest)) =
     ap (λ (b : Bool). b && list_all is_named_again rest) (named ∙ ap (λ (b : Bool). all.named && b) own_named)
@@ -51,11 +51,11 @@ last_named true = refl
 last_named false = refl
 
 -- none is left
-pub with_none : (all : Measure) (rest : List NamedBytes) (whole : Measure) → rest ≡ [] → all.bound ≤ most_told → with all rest ≡ whole → all ≡ whole
+pub with_none : (all : Measure) (rest : List NamedBytes) (whole : Measure) → rest ≡ [] → all.bound ≤ most_named → with all rest ≡ whole → all ≡ whole
 unfolding blobs_bound
 with_none all rest whole none fits so_far =
     let zero : blobs_bound rest ≡ 0 = ap blobs_bound none in
-    let sum : all.bound ≡ min (all.bound + blobs_bound rest) most_told = omega (arith, zero, fits) in
+    let sum : all.bound ≡ min (all.bound + blobs_bound rest) most_named = omega (arith, zero, fits) in
     let each : all.named ≡ (all.named && list_all is_named_again rest) =
     sym (ap (λ (l : List NamedBytes). all.named && list_all is_named_again l) none ∙ last_named all.named) in
     ap₂ (λ (n : ℕ) (b : Bool). record { bound = n; named = b }) sum each ∙ so_far
@@ -102,7 +102,7 @@ found_some (Some one) measure e = let same : measure_of (one ∷ []) ≡ measure
 
 -- the blob at the next place is measured
 pub place_measured : (j : ℕ) (shares : List Share) (places : List ℕ) (one : NamedBytes) (all next some whole : Measure) → j < length places
-    → blob_at shares (get_or places j 0) ≡ Some one → some ≡ measure_of (one ∷ []) → next.bound ≡ min (all.bound + some.bound) most_told
+    → blob_at shares (get_or places j 0) ≡ Some one → some ≡ measure_of (one ∷ []) → next.bound ≡ min (all.bound + some.bound) most_named
     → next.named ≡ (all.named && some.named) → with all (blobs_at shares (drop j places)) ≡ whole → with next (blobs_at shares (drop (j + 1) places)) ≡ whole
 place_measured j shares places one all next some whole lt found is bound named so_far =
     let rest : List NamedBytes = blobs_at shares (drop (j + 1) places) in
@@ -112,7 +112,7 @@ place_measured j shares places one all next some whole lt found is bound named s
 
 -- those of the next payment are
 pub payment_measured : (shares : List Share) (unit : List ℕ) (left others : List (List ℕ)) (all next some whole : Measure) → left ≡ unit ∷ others
-    → some ≡ measure_of (payment_at shares unit).blobs → next.bound ≡ min (all.bound + some.bound) most_told → next.named ≡ (all.named && some.named)
+    → some ≡ measure_of (payment_at shares unit).blobs → next.bound ≡ min (all.bound + some.bound) most_named → next.named ≡ (all.named && some.named)
     → with all (blobs_of (map (payment_at shares) left)) ≡ whole → with next (blobs_of (map (payment_at shares) others)) ≡ whole
 payment_measured shares unit left others all next some whole left_is is bound named so_far =
     with_more all next some (payment_at shares unit).blobs (blobs_of (map (payment_at shares) others)) whole is bound named

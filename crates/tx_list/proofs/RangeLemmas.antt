@@ -13,7 +13,7 @@ use Rattle.share_split.specs.Units.{unit_text, units_text}
 use Rattle.share_split.specs.Joined.{padding_share, IsBlob}
 use Rattle.share_split.proofs.Writing.BlobLaws.{length-blob_shares_of}
 use Rattle.square_layout.specs.Layout.{share_count_of, end_of}
-use Rattle.square_layout.specs.Refusals.{max_shares, most_told}
+use Rattle.square_layout.specs.Refusals.{max_shares, most_named}
 use Rattle.square_layout.specs.Plans.{PlanParts, front, planned, plan_width}
 use Rattle.square_layout.proofs.LeastWidthLemmas.{holding_holds}
 use Rattle.square_layout.proofs.PlanLemmas.{length-front, planned_fits}
@@ -122,6 +122,6 @@ range_is_there list before after blob few is =
 pub list_blobs : (list : ListParts) → AllByRecursion IsPayment list.payments → AllByRecursion IsNamed (blobs_of list.payments)
     → list_size_refusal list ≡ None → AllByRecursion IsBlob (blobs_of list.payments)
 list_blobs list payments named fits =
-    let within = if_none (nat_lt max_shares (list_bound list)) (TooLarge (min (list_bound list) most_told)) None fits in
+    let within = if_none (nat_lt max_shares (list_bound list)) (TooLarge (min (list_bound list) most_named)) None fits in
     blobs_held (blobs_of list.payments) named (payments_some list.payments payments)
     (omega (arith, ltb-false max_shares (list_bound list) within.0))

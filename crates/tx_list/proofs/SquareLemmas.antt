@@ -9,7 +9,7 @@ use Rattle.namespace_id.proofs.StringLemmas.{AreBytes-none, AreBytes-cons, AreBy
 use Rattle.proto_fields.specs.Varints.{varint_within, varint}
 use Rattle.proto_fields.proofs.Varint.Bytes.{varint_within-low, varint_within-high}
 use Rattle.square_layout.specs.Blocks.{IsSquare}
-use Rattle.square_layout.specs.Refusals.{max_shares, most_told}
+use Rattle.square_layout.specs.Refusals.{max_shares, most_named}
 use Rattle.square_layout.specs.Plans.{PlanParts}
 use Rattle.square_layout.proofs.PlanLemmas.{length-front}
 use Rattle.square_layout.proofs.SquareLemmas.{plan_is_square, plan_has_shares}
@@ -35,7 +35,7 @@ pub list_is_square : (list : ListParts) → list_size_refusal list ≡ None → 
 list_is_square list fine =
     let plan : PlanParts = plan_of_list list in
     let few : list_bound list ≤ max_shares =
-    few_by (list_bound list) (nat_lt max_shares (list_bound list)) (TooLarge (min (list_bound list) most_told)) refl fine in
+    few_by (list_bound list) (nat_lt max_shares (list_bound list)) (TooLarge (min (list_bound list) most_named)) refl fine in
     plan_is_square plan (omega (arith, length-front plan, list_has_room list few)) few
 
 -- ---- payments are written as bytes

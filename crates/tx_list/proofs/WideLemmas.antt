@@ -18,7 +18,7 @@ use Rattle.share_split.specs.Units.{unit_share_count}
 use Rattle.share_split.specs.Walks.{units_of}
 use Rattle.square_layout.specs.Blocks.{SquareShares}
 use Rattle.square_layout.specs.Plans.{blobs_bound}
-use Rattle.square_layout.specs.Refusals.{max_shares, most_told}
+use Rattle.square_layout.specs.Refusals.{max_shares, most_named}
 use Rattle.square_layout.proofs.LeastWidthLemmas.{holding_holds}
 use Rattle.tx_list.specs.declared.measuring.Measure.{Measure}
 use Rattle.tx_list.specs.declared.refusals.BackError.{BackError}
@@ -142,7 +142,7 @@ bound_is shares plain units passed =
     full-append some (map payment_again payments) ∙ ap (λ (l : List (List ℕ)). wrap_full some ++ l) (full_units shares units passed) in
     ap₂ (λ (l : List (List ℕ)) (n : ℕ). unit_share_count (list_of plain).units + unit_share_count l + n) full (joined_bound plain payments)
 
-size_refused : (n m : ℕ) → m ≡ min n most_told → (other most : ℕ) → most ≡ other + n → nat_lt max_shares most ≡ not (nat_le (other + m) max_shares)
+size_refused : (n m : ℕ) → m ≡ min n most_named → (other most : ℕ) → most ≡ other + n → nat_lt max_shares most ≡ not (nat_le (other + m) max_shares)
 size_refused n m is other most sum = elim (cases_lt max_shares most) [
   | inl great ↦
       let one : nat_lt max_shares most ≡ true = grind (arith, nat_tests, great) in
@@ -180,7 +180,7 @@ refused_is shares plain units blobs wholes counted passed is =
     let all : AllByRecursion IsStatablePayment payments = all_statable_payments shares units wholes counted in
     let list : ListParts = list_of (plain ++ map payment_spelling payments) in
     let named : blobs.named ≡ list_all is_named_again (blobs_of payments) = ap (λ (m : Measure). m.named) is in
-    let bound : blobs.bound ≡ min (blobs_bound (blobs_of payments)) most_told = ap (λ (m : Measure). m.bound) is in
+    let bound : blobs.bound ≡ min (blobs_bound (blobs_of payments)) most_named = ap (λ (m : Measure). m.bound) is in
     let first : is_some (read_refusal (plain ++ map payment_spelling payments)) ≡ (is_some (read_refusal plain) || not blobs.named) =
     behind_refused 0 false plain payments all (have_blobs 0 shares units passed)
     ∙ ap (λ (b : Bool). is_some (read_refusal plain) || not b) (sym named) in
@@ -191,7 +191,7 @@ refused_is shares plain units blobs wholes counted passed is =
     let fits : nat_le (other + rest + blobs.bound) max_shares ≡ nat_le (bound_with (list_of plain) units blobs.bound) max_shares =
     ap (λ (n : ℕ). nat_le n max_shares) (omega arith) in
     let second : is_some (list_size_refusal list) ≡ not (nat_le (bound_with (list_of plain) units blobs.bound) max_shares) =
-    refused_some (nat_lt max_shares (list_bound list)) (TooLarge (min (list_bound list) most_told))
+    refused_some (nat_lt max_shares (list_bound list)) (TooLarge (min (list_bound list) most_named))
     ∙ size_refused (blobs_bound (blobs_of payments)) blobs.bound bound (other + rest) (list_bound list) (omega (arith, most))
     ∙ ap not fits in
     ap₂ (λ (a b : Bool). a || b) first second
@@ -242,12 +242,12 @@ laid_wide square plain units blobs wholes counted passed is size many =
       | inl has ↦
           let none : (is_some (read_refusal transactions) || is_some (list_size_refusal list)) ≡ false = refused ∙ ap not has in
           let fits : nat_lt max_shares (list_bound list) ≡ false =
-          sym (refused_some (nat_lt max_shares (list_bound list)) (TooLarge (min (list_bound list) most_told)))
+          sym (refused_some (nat_lt max_shares (list_bound list)) (TooLarge (min (list_bound list) most_named)))
           ∙ neither (is_some (read_refusal transactions)) (is_some (list_size_refusal list)) none in
           let few : list_bound list ≤ max_shares = not_great (list_bound list) fits in
           let sum : blobs_bound (blobs_of list.payments) ≡ blobs_bound (blobs_of (list_of plain).payments) + blobs_bound (blobs_of payments) =
           ap (λ (l : ListParts). blobs_bound (blobs_of l.payments)) (list_again plain payments all) ∙ joined_bound plain payments in
-          let bound : blobs.bound ≡ min (blobs_bound (blobs_of payments)) most_told = ap (λ (m : Measure). m.bound) is in
+          let bound : blobs.bound ≡ min (blobs_bound (blobs_of payments)) most_named = ap (λ (m : Measure). m.bound) is in
           let wide : square.k * square.k < (square_of_list list).k * (square_of_list list).k = omega (arith, width_holds list few, sum, bound, size, many) in
           ap (λ (b : Bool). cond b (Some (Unlike 0)) rest) none
           ∙ ap (option_map Unlike) (unlike_wider square (square_of_list list) wide)

@@ -7,7 +7,7 @@ use Rattle.namespace_id.specs.Names.{namespace_refusal}
 use Rattle.share_split.specs.Blobs.{NamedBytes}
 use Rattle.share_split.specs.Units.{unit_share_count}
 use Rattle.square_layout.specs.Plans.{blobs_bound}
-use Rattle.square_layout.specs.Refusals.{max_shares, most_told}
+use Rattle.square_layout.specs.Refusals.{max_shares, most_named}
 use Rattle.tx_list.specs.declared.measuring.Measure.{Measure}
 use Rattle.tx_list.specs.Payments.{ListParts, blobs_of}
 use Rattle.tx_list.specs.Wrapped.{wrapped}
@@ -23,7 +23,7 @@ is_named_again blob = not (is_some (namespace_refusal (0 ∷ drop 1 blob.namespa
 
 -- what blobs ask for: as many shares as they may take at most, where a greater number isn't told, and whether each is so named
 abbrev pub measure_of : List NamedBytes → Measure
-measure_of blobs = record { bound = min (blobs_bound blobs) most_told; named = list_all is_named_again blobs }
+measure_of blobs = record { bound = min (blobs_bound blobs) most_named; named = list_all is_named_again blobs }
 
 -- what the blob asks for that begins at a place, if one does
 abbrev pub measure_at : List Share → ℕ → Option Measure

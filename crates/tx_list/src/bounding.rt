@@ -2,7 +2,7 @@
 
 ghost use Rattle.std.specs.Prelude.{◌≡◌, ◌++◌, min, IfOk, OnOk};
 ghost use Rattle.std.specs.List.{flat_map};
-ghost use Rattle.square_layout.specs.Refusals.{most_told};
+ghost use Rattle.square_layout.specs.Refusals.{most_named};
 ghost use Rattle.tx_list.specs.Reserves.{wrap_full};
 ghost use Rattle.tx_list.specs.Measures.{full_of, bound_with, has_square};
 
@@ -59,7 +59,7 @@ fn all_full(alloc: Global, list: &TxList, payments: &[Unit]) -> Result<Vec<Unit>
 
 /// How many shares the width is for of the square of a list with wrapped payments behind it, whose blobs may take so many.
 fn bound_with(alloc: Global, list: &TxList, payments: &[Unit], bound: u64) -> Result<u64, NoMemory>
-    ensures { IfOk result (λ most. most ≡ min (bound_with list.now payments.now bound) most_told) }
+    ensures { IfOk result (λ most. most ≡ min (bound_with list.now payments.now bound) most_named) }
 {
     let full = all_full(alloc, list, payments)?;
     let reserve = unit_share_count(&list.units).saturating_add(unit_share_count(&full));

@@ -3,7 +3,7 @@
 ghost use Rattle.std.specs.Prelude.{◌≡◌, ◌<◌, ◌&&◌, ◌+◌, ◌-◌, ◌^◌, ◌∷◌, length, min, map, not, is_some, IfOk, OnOk};
 ghost use Rattle.namespace_id.specs.Names.{namespace_refusal};
 ghost use Rattle.namespace_id.specs.Sizes.{namespace_size};
-ghost use Rattle.square_layout.specs.Refusals.{most_told};
+ghost use Rattle.square_layout.specs.Refusals.{most_named};
 ghost use Rattle.tx_list.specs.Payments.{blobs_of};
 ghost use Rattle.tx_list.specs.Unwrapped.{wrapped_tx};
 ghost use Rattle.tx_list.specs.BackRefusals.{blobs_at, places_refusal, payment_at, wrapper_refusal, wrappers_refusal, AnswersBack};
@@ -82,7 +82,7 @@ fn measure_at(
 
 /// What some blobs ask for together with others.
 fn joined(some: Measure, others: Measure) -> Measure
-    ensures bound { result.bound ≡ min (some.bound + others.bound) most_told }
+    ensures bound { result.bound ≡ min (some.bound + others.bound) most_named }
     ensures named { result.named ≡ (some.named && others.named) }
 {
     Measure {

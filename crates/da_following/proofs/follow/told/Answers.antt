@@ -2,7 +2,7 @@ use Rattle.std.proofs.Common.{◌≡◌, ◌∙◌, [], List, length, subst}
 use Rattle.namespace_id.specs.declared.namespaces.Namespace.{Namespace}
 use Rattle.blob_feed.specs.Feeds.{heights_of}
 use Rattle.da_files.specs.Requests.{namespaces_in}
-use Rattle.da_following.specs.Follow.{each_once, items_in, places_from, IsToldOf}
+use Rattle.da_following.specs.Follow.{each_once, items_in, places_from, IsFeedText}
 use Rattle.da_following.specs.Heights.{fed_by}
 use Rattle.da_following.proofs.FedByLemmas.{fed_is}
 use Rattle.da_following.proofs.WayLemmas.{none_left, way_end}
@@ -21,5 +21,5 @@ returns c =
     c.in_ok-close.ensures.none in (
       fed_by names all,
       fed_is names wanted same c.requires (λ height name. c.feed_laws.ensures.first names height name) items,
-      subst (λ (l : List Namespace). IsToldOf (fed_by names all) (places_from l 0 (length all)) c.close.new.self.told) same lines,
+      subst (λ (l : List Namespace). IsFeedText (fed_by names all) (places_from l 0 (length all)) c.close.new.self.told) same lines,
     )

@@ -1,7 +1,7 @@
 use Rattle.std.proofs.Common.{◌≡◌, ◌∙◌, ◌+◌, min, ap, sym, subst, arith}
 use Rattle.square_layout.specs.Blocks.{HaveBytes}
 use Rattle.square_layout.specs.Plans.{blobs_bound}
-use Rattle.square_layout.specs.Refusals.{most_told}
+use Rattle.square_layout.specs.Refusals.{most_named}
 use Rattle.square_layout.proofs.CountLemmas.{lent}
 use Rattle.tx_list.specs.Payments.{blobs_of}
 use Rattle.tx_list.proofs.ListLemmas.{payments_some, ends_fit}
@@ -23,4 +23,4 @@ pub blob_places-requires-clause-fits : goal.blob_places-requires-clause-fits
 blob_places-requires-clause-fits c =
     let same : c.deref-2.result.now ≡ c.deref-3.result.now = c.deref-2.ensures.value ∙ sym c.deref-3.ensures.value in
     ends_fit c.in-Ok-list_reserve.reserve c.plan_bound-most.result (lent c.deref-3.result.now)
-    (c.plan_bound-most.ensures ∙ ap (λ l. min (c.in-Ok-list_reserve.reserve + blobs_bound (lent l)) most_told) same) (omega (arith, c.if-most-gt-MAX_SHARES.false))
+    (c.plan_bound-most.ensures ∙ ap (λ l. min (c.in-Ok-list_reserve.reserve + blobs_bound (lent l)) most_named) same) (omega (arith, c.if-most-gt-MAX_SHARES.false))

@@ -16,20 +16,20 @@ use Rattle.da_talk.specs.Events.{Event, heard_in, said_in}
 use Rattle.da_talk.specs.Talks.{Does, AtEachWait, HasNoLong, IsBad}
 
 -- what was said to frames behind which a talk goes on: what is due before the first, and then to each one
-pub data IsTold {T : Type 0} (t : talker.Ghosts T) (first : T) : List Raw → List ℕ → Type 0 where
-  begun : (text : List ℕ) → t.begins first text → IsTold t first [] text
-  told : (frames : List Raw) (frame : Raw) (before text : List ℕ) → IsTold t first frames before → t.replies first frames frame text
-      → IsTold t first (frames ++ frame ∷ []) (before ++ text)
+pub data AreReplies {T : Type 0} (t : talker.Ghosts T) (first : T) : List Raw → List ℕ → Type 0 where
+  begun : (text : List ℕ) → t.begins first text → AreReplies t first [] text
+  told : (frames : List Raw) (frame : Raw) (before text : List ℕ) → AreReplies t first frames before → t.replies first frames frame text
+      → AreReplies t first (frames ++ frame ∷ []) (before ++ text)
 
 -- what is due next behind what was said before, of the frames that bytes begin with: the first words, the reply to a frame, or the
 -- last words, where a frame ended the talk or where the bytes are over
 pub data IsDue {T : Type 0} (t : talker.Ghosts T) (first now : T) (bytes : List ℕ) : List ℕ → List ℕ → Type 0 where
   words : (text : List ℕ) → t.begins first text → IsDue t first now bytes [] text
   reply : (frames later : List Raw) (frame : Raw) (before text : List ℕ) → frames_of bytes ≡ frames ++ frame ∷ later
-      → IsTold t first frames before → t.replies first frames frame text → IsDue t first now bytes before text
+      → AreReplies t first frames before → t.replies first frames frame text → IsDue t first now bytes before text
   verdict : (frames later : List Raw) (frame : Raw) (before text : List ℕ) → frames_of bytes ≡ frames ++ frame ∷ later
-      → IsTold t first frames before → t.decides first now (frames ++ frame ∷ []) text → IsDue t first now bytes before text
-  last : (before text : List ℕ) → bad_frame bytes ≡ None → IsTold t first (frames_of bytes) before
+      → AreReplies t first frames before → t.decides first now (frames ++ frame ∷ []) text → IsDue t first now bytes before text
+  last : (before text : List ℕ) → bad_frame bytes ≡ None → AreReplies t first (frames_of bytes) before
       → t.ends first now (frames_of bytes) text → IsDue t first now bytes before text
 
 -- ---- the end
@@ -38,7 +38,7 @@ pub data IsDue {T : Type 0} (t : talker.Ghosts T) (first now : T) (bytes : List 
 pub record EndsOver {T : Type 0} (t : talker.Ghosts T) (first now : T) (heard said : List ℕ) (rest : Option (List ℕ)) : Type 0 where
   pub before : List ℕ
   pub text : List ℕ
-  pub told : IsTold t first (frames_of heard) before
+  pub told : AreReplies t first (frames_of heard) before
   pub due : t.ends first now (frames_of heard) text
   pub all : said ≡ before ++ text
   pub whole : bad_frame heard ≡ None
@@ -52,7 +52,7 @@ pub record EndsDecided {T : Type 0} (t : talker.Ghosts T) (first now : T) (heard
   pub are : frames_of heard ≡ frames ++ frame ∷ later
   pub before : List ℕ
   pub text : List ℕ
-  pub told : IsTold t first frames before
+  pub told : AreReplies t first frames before
   pub due : t.decides first now (frames ++ frame ∷ []) text
   pub all : said ≡ before ++ text
 
@@ -63,7 +63,7 @@ pub record IsUnfit {T : Type 0} (t : talker.Ghosts T) (first : T) (heard said : 
   pub later : List Raw
   pub are : frames_of heard ≡ frames ++ frame ∷ later
   pub place : at ≡ length (frames_bytes frames)
-  pub told : IsTold t first frames said
+  pub told : AreReplies t first frames said
   pub refused : t.refuses first frames frame
 
 -- what was due next was said in part
@@ -81,7 +81,7 @@ pub record IsTooLong {T : Type 0} (t : talker.Ghosts T) (first : T) (heard said 
   pub frames : List Raw
   pub later : List Raw
   pub are : frames_of heard ≡ frames ++ later
-  pub told : IsTold t first frames said
+  pub told : AreReplies t first frames said
 
 -- memory ran out for a frame: the replies to those before it were said
 pub record HasNoMemory {T : Type 0} (t : talker.Ghosts T) (first : T) (heard said : List ℕ) : Type 0 where
@@ -89,28 +89,28 @@ pub record HasNoMemory {T : Type 0} (t : talker.Ghosts T) (first : T) (heard sai
   pub frame : Raw
   pub later : List Raw
   pub are : frames_of heard ≡ frames ++ frame ∷ later
-  pub told : IsTold t first frames said
+  pub told : AreReplies t first frames said
   pub takes : t.takes_memory first
 
 -- what the end of a talk says of what was heard and said, and of what is left to be heard
-abbrev pub EndsTold : {T : Type 0} → talker.Ghosts T → T → T → List ℕ → List ℕ → Option (List ℕ) → TalkEnd → Type 0
-EndsTold t first now heard said rest Over = EndsOver t first now heard said rest
-EndsTold t first now heard said rest Decided = EndsDecided t first now heard said
-EndsTold t first now heard said rest (Bad at) = IsTold t first (frames_of heard) said × IsBad heard rest at
-EndsTold t first now heard said rest (Unfit at) = IsUnfit t first heard said at
-EndsTold t first now heard said rest ReadFailed = IsTold t first (frames_of heard) said
-EndsTold t first now heard said rest WriteFailed = EndsCut t first now heard said
-EndsTold t first now heard said rest TooLong = IsTooLong t first heard said
-EndsTold t first now heard said rest NoMemory = HasNoMemory t first heard said
+abbrev pub EndsReplies : {T : Type 0} → talker.Ghosts T → T → T → List ℕ → List ℕ → Option (List ℕ) → TalkEnd → Type 0
+EndsReplies t first now heard said rest Over = EndsOver t first now heard said rest
+EndsReplies t first now heard said rest Decided = EndsDecided t first now heard said
+EndsReplies t first now heard said rest (Bad at) = AreReplies t first (frames_of heard) said × IsBad heard rest at
+EndsReplies t first now heard said rest (Unfit at) = IsUnfit t first heard said at
+EndsReplies t first now heard said rest ReadFailed = AreReplies t first (frames_of heard) said
+EndsReplies t first now heard said rest WriteFailed = EndsCut t first now heard said
+EndsReplies t first now heard said rest TooLong = IsTooLong t first heard said
+EndsReplies t first now heard said rest NoMemory = HasNoMemory t first heard said
 
 -- a talk: what happened; that whenever bytes were waited for, all that is due to the frames by then was said, and nothing else; that
 -- none were waited for behind a length above the limit; and the end
-pub record HasTold {L T : Type 0} (l : line.Ghosts L) (t : talker.Ghosts T) (old new : L) (first now : T) (ended : TalkEnd) : Type 0 where
+pub record HasConversed {L T : Type 0} (l : line.Ghosts L) (t : talker.Ghosts T) (old new : L) (first now : T) (ended : TalkEnd) : Type 0 where
   pub events : List Event
   pub did : Does l old new events
-  pub prompt : AtEachWait (λ came went. IsTold t first (frames_of came) went) events
+  pub prompt : AtEachWait (λ came went. AreReplies t first (frames_of came) went) events
   pub at_once : AtEachWait (λ came went. HasNoLong came) events
-  pub end : EndsTold t first now (heard_in events) (said_in events) (l.rest new) ended
+  pub end : EndsReplies t first now (heard_in events) (said_in events) (l.rest new) ended
 
 -- ---- failures
 
