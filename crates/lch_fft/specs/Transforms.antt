@@ -1,5 +1,5 @@
 -- Additive transforms: sums of multiples of the polynomials X_j, and their values at blocks of points.
-use Rattle.std.specs.Prelude.{◌≡◌, ℕ, zero, suc, ◌+◌, ◌/◌, ◌%◌, ◌<◌, ◌==◌, ◌||◌, Bool, List, [], ◌∷◌, length, bit_xor, slice_index, if◌then◌else◌}
+use Rattle.std.specs.Prelude.{◌≡◌, ℕ, zero, suc, ◌+◌, ◌/◌, ◌%◌, ◌<◌, ◌==◌, Bool, List, [], ◌∷◌, length, bit_xor, slice_index, if◌then◌else◌}
 use Rattle.gf_cantor.specs.Field.{Field, product, bits}
 use Rattle.namespace_id.specs.declared.shares.Share.{Share}
 use Rattle.namespace_id.specs.Powers.{is_power}
@@ -41,4 +41,4 @@ pub record Evaluates (r : LabelReading) (shift : ℕ) (coefficients values : Lis
 
 -- whether a transform may have this length: a power of two from 1 to 1,024
 abbrev pub is_count : ℕ → Bool
-is_count n = is_power n || (n == 512) || (n == 1024)
+is_count n = is_power n
