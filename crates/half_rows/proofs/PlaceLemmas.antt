@@ -1,42 +1,17 @@
--- The positions of a half are positions of a codeword.
-use Rattle.std.proofs.Common.{◌≡◌, ◌∙◌, ℕ, zero, suc, ◌+◌, ◌-◌, ◌*◌, ◌≤◌, List, [], ◌∷◌, ◌++◌, length, true, refl, sym, ap, ap₂, subst, arith, IsTrue}
-use Rattle.std.specs.Prelude.{nat_lt}
-use Rattle.std.specs.List.{list_all}
-use Rattle.std.proofs.lemmas.Bool.{and_from}
-use Rattle.std.proofs.lemmas.Bool.Decides.{nat_tests}
+-- The positions of a half, and the numbers that count up to them.
+use Rattle.std.proofs.Common.{◌≡◌, ◌∙◌, ℕ, suc, ◌+◌, ◌-◌, ◌≤◌, List, [], ◌∷◌, ◌++◌, length, sym, ap, ap₂, subst, arith, IsTrue}
 use Rattle.std.proofs.lemmas.List.{take_at}
 use Rattle.namespace_id.specs.declared.shares.Share.{Share}
-use Rattle.namespace_id.specs.Lists.{holds_along, ascending}
+use Rattle.namespace_id.specs.Lists.{ascending}
 use Rattle.namespace_id.proofs.AscendingLemmas.{length-ascending}
 use Rattle.namespace_id.proofs.AscentLemmas.{ascending-last}
 use Rattle.leopard_code.specs.Codewords.{are_positions, HasEntries}
-use Rattle.leopard_code.proofs.FirstLemmas.{first_entries}
+use Rattle.leopard_code.proofs.FirstLemmas.{positions_from, first_entries}
 use Rattle.celestia_pb.specs.declared.half_row.Side.{Side}
 use Rattle.celestia_pb.specs.declared.half_row.Side.TheVariants.{Left, Right}
 use Rattle.half_rows.specs.Rows.{positions_of_half}
 
--- numbers that count up are ascending
-along_ascending : (n first : ℕ) → holds_along nat_lt (ascending first n) ≡ true
-unfolding ascending holds_along
-along_ascending zero first = refl
-along_ascending (suc zero) first = refl
-along_ascending (suc (suc n)) first =
-    let next : nat_lt first (suc first) ≡ true = grind (arith, nat_tests) in
-    and_from (nat_lt first (suc first)) (holds_along nat_lt (ascending (suc first) (suc n))) next (along_ascending (suc n) (suc first))
-
--- and below their end
-below_ascending : (n first high : ℕ) → first + n ≤ high → list_all (λ pos. nat_lt pos high) (ascending first n) ≡ true
-unfolding ascending
-below_ascending zero first high h = refl
-below_ascending (suc n) first high h =
-    let here : nat_lt first high ≡ true = grind (arith, nat_tests) in
-    and_from (nat_lt first high) (list_all (λ pos. nat_lt pos high) (ascending (suc first) n)) here (below_ascending n (suc first) high (omega arith))
-
--- k of them from one that isn't above k on
-positions_from : (k first : ℕ) → first ≤ k → IsTrue (are_positions k (ascending first k))
-positions_from k first low =
-    and_from (list_all (λ pos. nat_lt pos (2 * k)) (ascending first k)) (holds_along nat_lt (ascending first k)) (below_ascending k first (2 * k) (omega arith)) (along_ascending k first)
-
+-- the positions of a half are positions of a codeword
 pub half_positions : (k : ℕ) (side : Side) → IsTrue (are_positions k (positions_of_half k side))
 half_positions k Left = positions_from k 0 (omega arith)
 half_positions k Right = positions_from k k (omega arith)

@@ -26,10 +26,14 @@ below_ascending (suc n) first high h =
     let here : nat_lt first high ≡ true = grind (arith, nat_tests) in
     and_from (nat_lt first high) (list_all (λ pos. nat_lt pos high) (ascending (suc first) n)) here (below_ascending n (suc first) high (omega arith))
 
+-- k of them from one that isn't above k on are positions
+pub positions_from : (k first : ℕ) → first ≤ k → IsTrue (are_positions k (ascending first k))
+positions_from k first low =
+    and_from (list_all (λ pos. nat_lt pos (2 * k)) (ascending first k)) (holds_along nat_lt (ascending first k)) (below_ascending k first (2 * k) (omega arith)) (along_ascending k first)
+
 -- the first k places of a codeword are positions
 pub first_positions : (k : ℕ) → IsTrue (are_positions k (ascending 0 k))
-first_positions k =
-    and_from (list_all (λ pos. nat_lt pos (2 * k)) (ascending 0 k)) (holds_along nat_lt (ascending 0 k)) (below_ascending k 0 (2 * k) (omega arith)) (along_ascending k 0)
+first_positions k = positions_from k 0 (omega arith)
 
 -- one of the first shares
 slice_get-take : (n : ℕ) (shares : List Share) (i : ℕ) → i < n → slice_get (take n shares) i ≡ slice_get shares i
