@@ -1,5 +1,5 @@
 -- Cells that are drawn from a list.
-use Rattle.std.proofs.Common.{◌≡◌, ◌≢◌, ◌∙◌, ℕ, zero, suc, ◌+◌, ◌-◌, ◌*◌, ◌<◌, ◌≤◌, List, [], ◌∷◌, ◌++◌, length, get_or, map, true, ◌&&◌, refl, sym, ap, ap₂, subst, append_assoc, arith}
+use Rattle.std.proofs.Common.{◌≡◌, ◌≢◌, ◌∙◌, ℕ, zero, suc, ◌+◌, ◌-◌, ◌*◌, ◌%◌, ◌<◌, ◌≤◌, List, [], ◌∷◌, ◌++◌, length, get_or, map, true, ◌&&◌, refl, sym, ap, ap₂, subst, append_assoc, arith}
 use Rattle.std.proofs.lemmas.List.{append-nil, length-map}
 use Rattle.std.specs.List.{remove, AllByRecursion, list_all}
 use Rattle.std.proofs.Math.Nat.{mod-lt}
@@ -13,11 +13,22 @@ use Rattle.namespace_id.proofs.AscendingLemmas.{length-ascending}
 use Rattle.namespace_id.specs.Lists.{ascending, holds_along}
 use Rattle.sampling.specs.Words.{key_number}
 use Rattle.sampling.specs.Draws.{draw_place, draws_from, drawn_cells, AreApart}
+use Rattle.sampling.specs.Taken.{cells_left}
+use Rattle.sampling.proofs.TakenLemmas.{length-left}
 use Rattle.sampling.proofs.ApartLemmas.{AreOnce, once_apart, all_tested, tested_all, all-remove, once-remove, once-at}
 
 -- a draw is from the rest
 pub place-lt : (key : List ℕ) (i : ℕ) (rest : List Cell) → 0 < length rest → draw_place key i rest < length rest
 place-lt key i rest some = mod-lt (key_number key (2 * i)) some
+
+-- the place that is taken of so many cells as are left is the one that the key gives among them
+pub place_left : (in_row rows cols gone place i : ℕ) (key taken : List ℕ) → rows ≡ in_row → cols ≡ in_row → gone ≡ length taken → place < rows * cols - gone
+    → place ≡ key_number key (2 * i) % (rows * cols - gone)
+    → (place < length (cells_left in_row taken)) × (place ≡ draw_place key i (cells_left in_row taken))
+place_left in_row rows cols gone place i key taken er ec eg within is =
+    let square : rows * cols ≡ in_row * in_row = ap₂ (λ (m n : ℕ). m * n) er ec in
+    let left : rows * cols - gone ≡ length (cells_left in_row taken) = omega (arith, square, eg, length-left in_row taken) in
+    (omega (arith, within, left), is ∙ ap (λ (n : ℕ). key_number key (2 * i) % n) left)
 
 -- there are as many cells as are drawn
 pub length-draws : (key : List ℕ) (count i : ℕ) (rest : List Cell) → length (draws_from key i count rest) ≡ count
