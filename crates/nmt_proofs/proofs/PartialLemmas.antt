@@ -11,7 +11,7 @@ use Rattle.namespace_id.specs.declared.namespaces.Namespace.{Namespace}
 use Rattle.namespace_id.specs.declared.shares.Share.{Share}
 use Rattle.namespace_id.specs.declared.digests.Digest.{Digest}
 use Rattle.namespace_id.specs.Digests.{no_digest}
-use Rattle.namespace_id.specs.Sizes.{most_leaves}
+use Rattle.namespace_id.specs.Sizes.{most_depth, most_leaves}
 use Rattle.nmt_tree.specs.Digests.{is_ordered_join, node_digest, leaf_digest}
 use Rattle.nmt_tree.specs.Roots.{halvings}
 use Rattle.nmt_proofs.specs.Parts.{given, join, ordered_digest}
@@ -107,6 +107,24 @@ length-front ns d count = length-take-le (length ns - 1) ns (omega arith) ∙ ap
 -- and the right half those behind the first
 pub length-back : (ns : List Digest) (d : ℕ) → length ns ≡ d → length (take (length ns - 1) (drop 1 ns)) ≡ d - 1
 length-back ns d count = length-take-le (length ns - 1) (drop 1 ns) (omega (arith, length-drop 1 ns)) ∙ ap (λ (k : ℕ). k - 1) count
+
+-- what a fold asks of a node is so of its left half: a shorter interval, with a node of the path less
+pub left_asked : (i d start : ℕ) (nodes : List Node) (path : List Digest) → 0 < d → 0 < i → d ≤ most_depth → start + 2 ^ d ≤ most_leaves
+    → (i + 1) * 2 ^ d ≤ length nodes → length nodes ≤ 2 * most_leaves → length path ≡ d → AreJoined nodes
+    → (0 < 2 * i) × ((d - 1 ≤ most_depth) × ((start + 2 ^ (d - 1) ≤ most_leaves)
+    × (((2 * i + 1) * 2 ^ (d - 1) ≤ length nodes) × ((length nodes ≤ 2 * most_leaves) × ((length (take (length path - 1) path) ≡ d - 1) × (AreJoined nodes))))))
+left_asked i d start nodes path deep place few within bound memory count joined =
+    let half = half_interval start d deep within in
+    (omega arith, (omega arith, (omega arith, (left_bound i d (length nodes) deep bound, (memory, (length-front path d count, joined))))))
+
+-- and of its right half
+pub right_asked : (i d start m : ℕ) (nodes : List Node) (path : List Digest) → 0 < d → m ≡ 2 ^ (d - 1) → d ≤ most_depth → start + 2 ^ d ≤ most_leaves
+    → (i + 1) * 2 ^ d ≤ length nodes → length nodes ≤ 2 * most_leaves → length path ≡ d → AreJoined nodes
+    → (0 < 2 * i + 1) × ((d - 1 ≤ most_depth) × ((start + m + 2 ^ (d - 1) ≤ most_leaves)
+    × (((2 * i + 1 + 1) * 2 ^ (d - 1) ≤ length nodes) × ((length nodes ≤ 2 * most_leaves) × ((length (take (length path - 1) (drop 1 path)) ≡ d - 1) × (AreJoined nodes))))))
+right_asked i d start m nodes path deep half few within bound memory count joined =
+    let halves = half_interval start d deep within in
+    (omega arith, (omega arith, (omega (arith, halves, half), (right_bound i d (length nodes) deep bound, (memory, (length-back path d count, joined))))))
 
 -- the node that is kept over its halves is the one over these digests, where they are the halves
 pub kept_node : (nodes : List Node) (i : ℕ) (l r : Digest) → AreHalves nodes i (digest_at nodes i) → l ≡ digest_at nodes (2 * i) → r ≡ digest_at nodes (2 * i + 1)

@@ -1,5 +1,5 @@
-use Rattle.std.proofs.Common.{◌<◌, ◌*◌, ◌∙◌, length, refl, arith, sym}
-use Rattle.nmt_proofs.proofs.PartialLemmas.{left_bound, right_bound, right_index, leaf_value, left_half, right_half, half_interval, length-front, length-back}
+use Rattle.std.proofs.Common.{◌<◌, ◌∙◌, length, refl, arith, sym}
+use Rattle.nmt_proofs.proofs.PartialLemmas.{right_index, leaf_value, left_half, right_half, left_asked, right_asked}
 use Rattle.nmt_proofs.proofs.Parts.ValueLemmas.{value_given, left_unordered, right_unordered, both_ordered}
 use Rattle.nmt_proofs.proofs.partial.+fold.Goals as goal
 
@@ -9,46 +9,19 @@ returns-then-depth-eq0-clause-value t c = leaf_value c.args.depth c.args.start c
 
 -- the left half is a shorter interval, with a node less
 pub fold-requires : goal.fold-requires
-fold-requires t c =
-    let deep : 0 < c.args.depth = omega arith in
-    let half = half_interval c.args.start c.args.depth deep c.requires.interval in
-    let place : 0 < 2 * c.args.i = let pos : 0 < c.args.i = c.requires.place in omega arith in (
-      omega arith,
-      (
-        place,
-        (
-          omega arith,
-          (
-            omega arith,
-            (
-              left_bound c.args.i c.args.depth (length c.args.nodes.now) deep c.requires.bound,
-              (c.requires.memory, (length-front c.args.path.now c.args.depth c.requires.count, c.requires.joined)),
-            ),
-          ),
-        ),
-      ),
-    )
+fold-requires t c = (
+  omega arith,
+  left_asked c.args.i c.args.depth c.args.start c.args.nodes.now c.args.path.now (omega arith) c.requires.place c.requires.depth c.requires.interval
+      c.requires.bound c.requires.memory c.requires.count c.requires.joined,
+)
 
 -- and so is the right one
 pub fold-requires-else-leaf-middle : goal.fold-requires-else-leaf-middle
-fold-requires-else-leaf-middle t c =
-    let deep : 0 < c.args.depth = omega arith in
-    let half = half_interval c.args.start c.args.depth deep c.requires.interval in (
-      omega arith,
-      (
-        omega arith,
-        (
-          omega arith,
-          (
-            omega (arith, half, c.leaf_count.ensures),
-            (
-              right_bound c.args.i c.args.depth (length c.args.nodes.now) deep c.requires.bound,
-              (c.requires.memory, (length-back c.args.path.now c.args.depth c.requires.count, c.requires.joined)),
-            ),
-          ),
-        ),
-      ),
-    )
+fold-requires-else-leaf-middle t c = (
+  omega arith,
+  right_asked c.args.i c.args.depth c.args.start c.leaf_count.result c.args.nodes.now c.args.path.now (omega arith) c.leaf_count.ensures c.requires.depth
+      c.requires.interval c.requires.bound c.requires.memory c.requires.count c.requires.joined,
+)
 
 -- a join below that is not ordered leaves no digest
 pub returns-in_err-below-clause-value : goal.returns-in_err-below-clause-value
