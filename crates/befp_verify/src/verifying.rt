@@ -56,7 +56,6 @@ pub struct FraudRefused {
 }
 
 /// Buffers for verifying claims on squares of width k, and of the code of this width.
-#[derive(Drop)]
 pub struct VerifyRoom {
     k: u16,
     code: Room,
@@ -75,6 +74,19 @@ impl Model for VerifyRoom {
     ghost view = { λ r. r.k };
 
     ghost invariant = { λ r. IsRoomForAxis r.k r.code r.known.items r.shares.items r.all.items r.names.items };
+}
+
+impl Drop for VerifyRoom {
+    fn drop(self) {
+        let VerifyRoom {
+            k: _,
+            code: _,
+            known: _,
+            shares: _,
+            all: _,
+            names: _,
+        } = self;
+    }
 }
 
 impl VerifyRoom {

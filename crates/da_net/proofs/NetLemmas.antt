@@ -5,8 +5,8 @@ use Rattle.std.specs.Prelude.{◌⊎◌, is_some, option_copied, IfSome, nat_le,
 use Rattle.std.specs.List.{list_any}
 use Rattle.std.proofs.lemmas.Bool.{cases_Bool, eq-eqb}
 use Rattle.std.proofs.lemmas.Bool.Decides.{eqb_tells, nat_tests}
-use Rattle.std.proofs.lemmas.Option.{slice_get_within, slice_get-get_or, slice_get_cases, slice_get_past, slice_get-map, same_Some, none-some, get_or_from_slice_get}
-use Rattle.std.proofs.lemmas.List.{length-set, get_or-set_same, get_or-set_other, map-append, length-append, get_or_append_left, get_or-append-add}
+use Rattle.std.proofs.lemmas.Option.{slice_get_read, slice_get_within, slice_get-get_or, slice_get_cases, slice_get_past, slice_get-map, same_Some, none-some, get_or_from_slice_get}
+use Rattle.std.proofs.lemmas.List.{length-map, length-set, get_or-set_same, get_or-set_other, map-append, length-append, get_or_append_left, get_or-append-add}
 use Rattle.std.proofs.lemmas.List.Folds.{list_any-append}
 use Rattle.std.proofs.Math.Seq.{map-set_same}
 use Rattle.namespace_id.specs.declared.cells.Cell.{Cell}
@@ -237,6 +237,14 @@ claim_alarm (Some (clashing left right)) claim e = absurd (none-some claim e)
 claim_alarm (Some waiting) claim e = absurd (none-some claim e)
 claim_alarm (Some available) claim e = absurd (none-some claim e)
 claim_alarm (Some (rejecting other)) claim e = ap (λ (c : ClaimParts). Some (rejecting c)) (same_Some other claim e)
+
+-- a seat that is read is the one of the node's number
+pub seat_read : {F : Type 0} {kinds : List NodeKind} (seats : List (Seat F)) (node : ℕ) (seat : Seat F) → map (λ (s : Seat F). node_kind s.node) seats ≡ kinds
+    → node < length kinds → seat ≡ get_or seats node seat → slice_get seats node ≡ Some seat
+seat_read {F = F} seats node seat are within is =
+    let count : length (map (λ (s : Seat F). node_kind s.node) seats) ≡ length seats = length-map seats (λ (s : Seat F). node_kind s.node) in
+    let within_kinds : node < length (map (λ (s : Seat F). node_kind s.node) seats) = subst (λ (l : List NodeKind). node < length l) (sym are) within in
+    slice_get_read seats (length seats) node seat refl (omega (arith, within_kinds, count)) is
 
 -- what alarmed the node of a seat
 pub alarm_there : {F : Type 0} (header : Roots) (seats : List (Seat F)) (most_items most_steps : ℕ) (pool : List Entry) (steps : List Kept) (node : ℕ) (seat : Seat F)

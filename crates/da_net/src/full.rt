@@ -104,7 +104,7 @@ impl FullNode {
             return;
         };
         match feed(session, header, proved, room) {
-            Fed::On(session) => self.session = Some(session),
+            Fed::On(session) => drop(self.session.replace(session)),
             Fed::Ended(end) => self.end = Some(end),
         }
     }

@@ -29,7 +29,6 @@ use std::alloc::Global;
 use std::marker::Model;
 
 /// A network of full nodes and light nodes under one header. It keeps its pool of items and the list of its steps.
-#[derive(Drop)]
 pub struct Net<F: Picker> {
     header: Header,
     room: VerifyRoom,
@@ -60,6 +59,20 @@ impl<F: Picker> Model for Net<F> {
     ghost invariant = { λ n. (n.room ≡ n.header.k)
         × IsNet F.picks n.header n.seats.items n.pool.items n.steps.items
         × HasPlaces n.most_items n.pool × HasPlaces n.most_steps n.steps };
+}
+
+impl<F: Picker> Drop for Net<F> {
+    fn drop(self) {
+        let Net {
+            header: _,
+            room: _,
+            seats: _,
+            most_items: _,
+            most_steps: _,
+            pool: _,
+            steps: _,
+        } = self;
+    }
 }
 
 /// Whether an event puts an item into the pool.

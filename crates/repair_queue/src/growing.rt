@@ -34,7 +34,6 @@ use std::marker::Model;
 ///
 /// Al-Bassam, Sonnino, Buterin and Khoffi, 2-dimensional Reed-Solomon encoded Merkle tree;
 /// docs/RULES.md, "Closures and verdicts".
-#[derive(Drop)]
 pub struct GrowingSession {
     header: Header,
     board: Board,
@@ -54,6 +53,18 @@ impl Model for GrowingSession {
     ghost view = { λ s. parts_by s.header s.board s.ended };
 
     ghost invariant = { λ s. IsGrowing s.header s.board s.tools s.ended s.room };
+}
+
+impl Drop for GrowingSession {
+    fn drop(self) {
+        let GrowingSession {
+            header: _,
+            board: _,
+            tools: _,
+            ended: _,
+            room: _,
+        } = self;
+    }
 }
 
 impl GrowingSession {

@@ -62,7 +62,6 @@ pub enum SessionState {
 ///
 /// Al-Bassam, Sonnino, Buterin and Khoffi, 2-dimensional Reed-Solomon encoded Merkle tree;
 /// docs/RULES.md, "Closures and verdicts".
-#[derive(Drop)]
 pub struct Session {
     pub(crate) header: Header,
     // what accepted samples have shown of the trees under it
@@ -84,6 +83,19 @@ impl Model for Session {
     ghost view = { λ s. parts_by s.header s.board s.ended };
 
     ghost invariant = { λ s. IsSession s.header s.trees s.board s.tools s.ended s.room };
+}
+
+impl Drop for Session {
+    fn drop(self) {
+        let Session {
+            header: _,
+            trees: _,
+            board: _,
+            tools: _,
+            ended: _,
+            room: _,
+        } = self;
+    }
 }
 
 /// The width of a header's square.

@@ -79,7 +79,6 @@ impl From<AllocError> for ServeError {
 /// or a column is made when an answer first needs it.
 ///
 /// Celestia specifications, "Data Structures".
-#[derive(Drop)]
 pub struct Held {
     grid: Grid,
     // one for each row of the original square
@@ -97,6 +96,16 @@ impl Model for Held {
     ghost view = { λ h. record { k = h.grid.k; grid = h.grid.shares; header = grid_roots h.grid.k h.grid.shares } };
 
     ghost invariant = { λ h. AreKept h.grid.k h.grid.shares h.names.items h.trees };
+}
+
+impl Drop for Held {
+    fn drop(self) {
+        let Held {
+            grid: _,
+            names: _,
+            trees: _,
+        } = self;
+    }
 }
 
 /// The entries of the rows of a grid that may hold a namespace. The trees over these rows are made,

@@ -26,7 +26,6 @@ use std::marker::Model;
 /// hashed. Columns, and the rows below the square, are never made.
 ///
 /// Celestia specifications, "Data Structures".
-#[derive(Drop)]
 pub struct HeldRows {
     square: Square,
     // one for each row of the square
@@ -43,6 +42,16 @@ impl Model for HeldRows {
     ghost view = { λ h. h.square };
 
     ghost invariant = { λ h. AreHeldRows h.square h.names.items h.trees };
+}
+
+impl Drop for HeldRows {
+    fn drop(self) {
+        let HeldRows {
+            square: _,
+            names: _,
+            trees: _,
+        } = self;
+    }
 }
 
 /// The entries of the rows of a square that may hold a namespace. The trees over these rows are made, those

@@ -4,20 +4,16 @@ use Rattle.std.proofs.lemmas.Option.{slice_get_read}
 use Rattle.da_net.specs.declared.items.NetEvent.TheVariants as event
 use Rattle.da_net.specs.declared.items.Kept.{Kept}
 use Rattle.da_net.specs.declared.seats.Entry.{Entry}
-use Rattle.da_net.specs.declared.seats.Seat.{Seat}
 use Rattle.da_net.specs.Networks.{handed, Network}
 use Rattle.da_net.specs.Nets.{NetParts, is_full, IsSameNet, IsHanded}
-use Rattle.da_net.specs.Seats.{node_kind, pool_items, IsNet}
-use Rattle.da_net.proofs.NetLemmas.{seen, net_hand, same_network, is_handed, room_for_step}
+use Rattle.da_net.specs.Seats.{pool_items, IsNet}
+use Rattle.da_net.proofs.NetLemmas.{seen, net_hand, same_network, is_handed, room_for_step, seat_read}
 use Rattle.da_net.proofs.nets.Net.hand.Goals as goal
 
 pub hand-requires-clause-seat : goal.hand-requires-clause-seat
 hand-requires-clause-seat g c =
     let seats = c.self.inside.seats in
-    let node : c.args.node < length seats.items =
-    omega (arith, subst (λ (n : NetParts). c.args.node < length n.nodes) (sym c.self.view_is) c.requires.node, length-map seats.items (λ (s : Seat _). node_kind s.node)) in
-    let at : slice_get seats.items c.args.node ≡ Some c.index_mut-seat.result.now =
-    slice_get_read seats.items (length seats.items) c.args.node c.index_mut-seat.result.now refl node c.index_mut-seat.ensures.value in (
+    let at = seat_read seats.items c.args.node c.index_mut-seat.result.now (ap (λ (n : NetParts). n.nodes) c.self.view_is) c.requires.node c.index_mut-seat.ensures.value in (
       handed (pool_items c.self.inside.pool.items) c.self.inside.steps.items c.args.node,
       c.self.invariant.1.seated c.args.node c.index_mut-seat.result.now at,
     )
@@ -44,10 +40,7 @@ invariant_of-self g c =
     let net : NetParts = seen c.self.inside.header seats.items c.self.inside.most_items c.self.inside.most_steps pool.items c.self.inside.steps.items in
     let free = subst (λ (n : NetParts). is_full n (event.Hand c.args.item c.args.node) ≡ false) (sym c.self.view_is) c.requires.room in
     let room : length c.self.inside.steps.items < c.self.inside.most_steps = room_for_step net (event.Hand c.args.item c.args.node) free in
-    let node : c.args.node < length seats.items =
-    omega (arith, subst (λ (n : NetParts). c.args.node < length n.nodes) (sym c.self.view_is) c.requires.node, length-map seats.items (λ (s : Seat _). node_kind s.node)) in
-    let at : slice_get seats.items c.args.node ≡ Some c.index_mut-seat.result.now =
-    slice_get_read seats.items (length seats.items) c.args.node c.index_mut-seat.result.now refl node c.index_mut-seat.ensures.value in
+    let at = seat_read seats.items c.args.node c.index_mut-seat.result.now (ap (λ (n : NetParts). n.nodes) c.self.view_is) c.requires.node c.index_mut-seat.ensures.value in
     let item : c.args.item < length pool.items =
     omega (arith, subst (λ (n : NetParts). c.args.item < length n.pool) (sym c.self.view_is) c.requires.item, length-map pool.items (λ (e : Entry). e.item)) in
     let there : slice_get pool.items c.args.item ≡ Some c.index.result.now =
@@ -67,10 +60,7 @@ invariant_of-self g c =
 pub returns-clause-kept : goal.returns-clause-kept
 returns-clause-kept g c =
     let seats = c.self.inside.seats in
-    let node : c.args.node < length seats.items =
-    omega (arith, subst (λ (n : NetParts). c.args.node < length n.nodes) (sym c.self.view_is) c.requires.node, length-map seats.items (λ (s : Seat _). node_kind s.node)) in
-    let at : slice_get seats.items c.args.node ≡ Some c.index_mut-seat.result.now =
-    slice_get_read seats.items (length seats.items) c.args.node c.index_mut-seat.result.now refl node c.index_mut-seat.ensures.value in
+    let at = seat_read seats.items c.args.node c.index_mut-seat.result.now (ap (λ (n : NetParts). n.nodes) c.self.view_is) c.requires.node c.index_mut-seat.ensures.value in
     let step = c.hand.ensures.step (handed (pool_items c.self.inside.pool.items) c.self.inside.steps.items c.args.node)
     (c.self.invariant.1.seated c.args.node c.index_mut-seat.result.now at) in
     subst (λ (n : NetParts). IsSameNet n (seen c.self.inside.header (set seats.items c.args.node c.hand.new.seat) c.self.inside.most_items c.self.inside.most_steps
@@ -87,10 +77,7 @@ pub returns-clause-handed : goal.returns-clause-handed
 returns-clause-handed g c =
     let pool = c.self.inside.pool in
     let seats = c.self.inside.seats in
-    let node : c.args.node < length seats.items =
-    omega (arith, subst (λ (n : NetParts). c.args.node < length n.nodes) (sym c.self.view_is) c.requires.node, length-map seats.items (λ (s : Seat _). node_kind s.node)) in
-    let at : slice_get seats.items c.args.node ≡ Some c.index_mut-seat.result.now =
-    slice_get_read seats.items (length seats.items) c.args.node c.index_mut-seat.result.now refl node c.index_mut-seat.ensures.value in
+    let at = seat_read seats.items c.args.node c.index_mut-seat.result.now (ap (λ (n : NetParts). n.nodes) c.self.view_is) c.requires.node c.index_mut-seat.ensures.value in
     let item : c.args.item < length pool.items =
     omega (arith, subst (λ (n : NetParts). c.args.item < length n.pool) (sym c.self.view_is) c.requires.item, length-map pool.items (λ (e : Entry). e.item)) in
     let there : slice_get pool.items c.args.item ≡ Some c.index.result.now =

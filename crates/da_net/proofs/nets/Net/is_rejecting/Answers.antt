@@ -1,21 +1,15 @@
-use Rattle.std.proofs.Common.{◌≡◌, ◌∙◌, ◌<◌, Some, length, slice_get, refl, sym, ap, subst, arith}
-use Rattle.std.proofs.lemmas.List.{length-map}
-use Rattle.std.proofs.lemmas.Option.{slice_get_read}
-use Rattle.da_net.specs.declared.seats.Seat.{Seat}
+use Rattle.std.proofs.Common.{◌∙◌, sym, ap}
 use Rattle.da_net.specs.Networks.{handed}
 use Rattle.da_net.specs.Nets.{NetParts, alarm_at, rejecting_claim, has_claim}
-use Rattle.da_net.specs.Seats.{node_kind, pool_items}
-use Rattle.da_net.proofs.NetLemmas.{alarm_there, claim_there}
+use Rattle.da_net.specs.Seats.{pool_items}
+use Rattle.da_net.proofs.NetLemmas.{alarm_there, claim_there, seat_read}
 use Rattle.da_net.proofs.nets.Net.is_rejecting.Goals as goal
 
 -- the seat was handed what it was
 pub claim-requires : goal.claim-requires
 claim-requires g c =
     let seats = c.self.inside.seats in
-    let node : c.args.node < length seats.items =
-    omega (arith, subst (λ (n : NetParts). c.args.node < length n.nodes) (sym c.self.view_is) c.requires, length-map seats.items (λ (s : Seat _). node_kind s.node)) in
-    let at : slice_get seats.items c.args.node ≡ Some c.index.result.now =
-    slice_get_read seats.items (length seats.items) c.args.node c.index.result.now refl node c.index.ensures in
+    let at = seat_read seats.items c.args.node c.index.result.now (ap (λ (n : NetParts). n.nodes) c.self.view_is) c.requires c.index.ensures in
     record {
       seat = (
         c.self.inside.header,
@@ -28,10 +22,7 @@ claim-requires g c =
 pub returns : goal.returns
 returns g c =
     let seats = c.self.inside.seats in
-    let node : c.args.node < length seats.items =
-    omega (arith, subst (λ (n : NetParts). c.args.node < length n.nodes) (sym c.self.view_is) c.requires, length-map seats.items (λ (s : Seat _). node_kind s.node)) in
-    let at : slice_get seats.items c.args.node ≡ Some c.index.result.now =
-    slice_get_read seats.items (length seats.items) c.args.node c.index.result.now refl node c.index.ensures in
+    let at = seat_read seats.items c.args.node c.index.result.now (ap (λ (n : NetParts). n.nodes) c.self.view_is) c.requires c.index.ensures in
     let alarm = alarm_there c.self.inside.header seats.items c.self.inside.most_items c.self.inside.most_steps c.self.inside.pool.items c.self.inside.steps.items
     c.args.node c.index.result.now at in
     c.is_some.ensures

@@ -1,17 +1,15 @@
-use Rattle.std.proofs.Common.{◌≡◌, ◌∙◌, ◌<◌, ◌++◌, ◌∷◌, [], ℕ, List, Bool, Some, true, false, set, length, slice_get, refl, sym, ap, subst, arith}
+use Rattle.std.proofs.Common.{◌≡◌, ◌∙◌, ◌<◌, ◌++◌, ◌∷◌, [], ℕ, List, Bool, true, false, set, length, refl, sym, ap, subst, arith}
 use Rattle.std.specs.Prelude.{Option, is_some}
 use Rattle.std.specs.List.{list_any}
 use Rattle.std.proofs.lemmas.List.{length-map}
-use Rattle.std.proofs.lemmas.Option.{slice_get_read}
 use Rattle.da_net.specs.declared.items.NetEvent.TheVariants as event
 use Rattle.da_net.specs.declared.items.Kept.{Kept}
 use Rattle.da_net.specs.declared.items.Kept.TheVariants as kept
 use Rattle.da_net.specs.declared.seats.Entry.{Entry}
-use Rattle.da_net.specs.declared.seats.Seat.{Seat}
 use Rattle.da_net.specs.Networks.{Standing, handed, Network}
 use Rattle.da_net.specs.Nets.{NetParts, is_full, is_publishing, alarm_at, rejecting_claim, IsSameNet, IsPublished}
 use Rattle.da_net.specs.Seats.{node_kind, alarm_of, pool_items, HasUnpublished, IsNet}
-use Rattle.da_net.proofs.NetLemmas.{seen, net_publish, is_published, claimed, claim_alarm, alarm_there, same_network, room_for_step, room_for_item}
+use Rattle.da_net.proofs.NetLemmas.{seen, net_publish, is_published, claimed, claim_alarm, alarm_there, same_network, room_for_step, room_for_item, seat_read}
 use Rattle.da_net.proofs.nets.Net.publish.Goals as goal
 
 -- the seat was handed what it was
@@ -20,10 +18,7 @@ copied-claim-requires-clause-seat g c =
     let pool = c.self.inside.pool in
     let seats = c.self.inside.seats in
     let steps = c.self.inside.steps.items in
-    let node : c.args.by < length seats.items =
-    omega (arith, subst (λ (n : NetParts). c.args.by < length n.nodes) (sym c.self.view_is) c.requires.node, length-map seats.items (λ (s : Seat _). node_kind s.node)) in
-    let at : slice_get seats.items c.args.by ≡ Some c.index_mut.result.now =
-    slice_get_read seats.items (length seats.items) c.args.by c.index_mut.result.now refl node c.index_mut.ensures.value in
+    let at = seat_read seats.items c.args.by c.index_mut.result.now (ap (λ (n : NetParts). n.nodes) c.self.view_is) c.requires.node c.index_mut.ensures.value in
     (handed (pool_items pool.items) steps c.args.by, c.self.invariant.1.seated c.args.by c.index_mut.result.now at)
 
 -- it holds a claim
@@ -32,11 +27,7 @@ copied-claim-requires-clause-rejects g c =
     let pool = c.self.inside.pool in
     let seats = c.self.inside.seats in
     let steps = c.self.inside.steps.items in
-    let net : NetParts = seen c.self.inside.header seats.items c.self.inside.most_items c.self.inside.most_steps pool.items steps in
-    let node : c.args.by < length seats.items =
-    omega (arith, subst (λ (n : NetParts). c.args.by < length n.nodes) (sym c.self.view_is) c.requires.node, length-map seats.items (λ (s : Seat _). node_kind s.node)) in
-    let at : slice_get seats.items c.args.by ≡ Some c.index_mut.result.now =
-    slice_get_read seats.items (length seats.items) c.args.by c.index_mut.result.now refl node c.index_mut.ensures.value in
+    let at = seat_read seats.items c.args.by c.index_mut.result.now (ap (λ (n : NetParts). n.nodes) c.self.view_is) c.requires.node c.index_mut.ensures.value in
     subst (λ (a : Option Standing). is_some (rejecting_claim a) ≡ true)
     (alarm_there c.self.inside.header seats.items c.self.inside.most_items c.self.inside.most_steps pool.items steps c.args.by c.index_mut.result.now at)
     (subst (λ (n : NetParts). is_some (rejecting_claim (alarm_at n c.args.by)) ≡ true) (sym c.self.view_is) c.requires.rejects)
@@ -44,14 +35,8 @@ copied-claim-requires-clause-rejects g c =
 -- and has a room for publishing it
 pub copied-claim-requires-clause-room : goal.copied-claim-requires-clause-room
 copied-claim-requires-clause-room g c =
-    let pool = c.self.inside.pool in
     let seats = c.self.inside.seats in
-    let steps = c.self.inside.steps.items in
-    let net : NetParts = seen c.self.inside.header seats.items c.self.inside.most_items c.self.inside.most_steps pool.items steps in
-    let node : c.args.by < length seats.items =
-    omega (arith, subst (λ (n : NetParts). c.args.by < length n.nodes) (sym c.self.view_is) c.requires.node, length-map seats.items (λ (s : Seat _). node_kind s.node)) in
-    let at : slice_get seats.items c.args.by ≡ Some c.index_mut.result.now =
-    slice_get_read seats.items (length seats.items) c.args.by c.index_mut.result.now refl node c.index_mut.ensures.value in
+    let at = seat_read seats.items c.args.by c.index_mut.result.now (ap (λ (n : NetParts). n.nodes) c.self.view_is) c.requires.node c.index_mut.ensures.value in
     subst (λ (b : Bool). HasUnpublished c.self.inside.header.k b c.index_mut.result.now.published)
     (subst (λ (n : NetParts). list_any (is_publishing c.args.by) n.steps ≡ false) (sym c.self.view_is) c.requires.first)
     (c.self.invariant.1.unpublished c.args.by c.index_mut.result.now at)
@@ -62,12 +47,7 @@ push_reserved-requires g c =
     let seats = c.self.inside.seats in
     let steps = c.self.inside.steps.items in
     let net : NetParts = seen c.self.inside.header seats.items c.self.inside.most_items c.self.inside.most_steps pool.items steps in
-    let node : c.args.by < length seats.items =
-    omega (arith, subst (λ (n : NetParts). c.args.by < length n.nodes) (sym c.self.view_is) c.requires.node, length-map seats.items (λ (s : Seat _). node_kind s.node)) in
-    let at : slice_get seats.items c.args.by ≡ Some c.index_mut.result.now =
-    slice_get_read seats.items (length seats.items) c.args.by c.index_mut.result.now refl node c.index_mut.ensures.value in
     let free = subst (λ (n : NetParts). is_full n (event.Publish c.args.by) ≡ false) (sym c.self.view_is) c.requires.room in
-    let step : length steps < c.self.inside.most_steps = room_for_step net (event.Publish c.args.by) free in
     let some : length (pool_items pool.items) < c.self.inside.most_items = room_for_item net (event.Publish c.args.by) free refl in
     let count = length-map pool.items (λ (e : Entry). e.item) in
     omega (arith, some, count, pool.ok.0, c.self.invariant.2.places)
@@ -78,14 +58,8 @@ push_reserved-requires-2 g c =
     let seats = c.self.inside.seats in
     let steps = c.self.inside.steps.items in
     let net : NetParts = seen c.self.inside.header seats.items c.self.inside.most_items c.self.inside.most_steps pool.items steps in
-    let node : c.args.by < length seats.items =
-    omega (arith, subst (λ (n : NetParts). c.args.by < length n.nodes) (sym c.self.view_is) c.requires.node, length-map seats.items (λ (s : Seat _). node_kind s.node)) in
-    let at : slice_get seats.items c.args.by ≡ Some c.index_mut.result.now =
-    slice_get_read seats.items (length seats.items) c.args.by c.index_mut.result.now refl node c.index_mut.ensures.value in
     let free = subst (λ (n : NetParts). is_full n (event.Publish c.args.by) ≡ false) (sym c.self.view_is) c.requires.room in
     let step : length steps < c.self.inside.most_steps = room_for_step net (event.Publish c.args.by) free in
-    let some : length (pool_items pool.items) < c.self.inside.most_items = room_for_item net (event.Publish c.args.by) free refl in
-    let count = length-map pool.items (λ (e : Entry). e.item) in
     omega (arith, step, c.self.inside.steps.ok.0, c.self.invariant.3.places)
 
 -- it is a network again
@@ -95,10 +69,7 @@ invariant_of-self g c =
     let seats = c.self.inside.seats in
     let steps = c.self.inside.steps.items in
     let net : NetParts = seen c.self.inside.header seats.items c.self.inside.most_items c.self.inside.most_steps pool.items steps in
-    let node : c.args.by < length seats.items =
-    omega (arith, subst (λ (n : NetParts). c.args.by < length n.nodes) (sym c.self.view_is) c.requires.node, length-map seats.items (λ (s : Seat _). node_kind s.node)) in
-    let at : slice_get seats.items c.args.by ≡ Some c.index_mut.result.now =
-    slice_get_read seats.items (length seats.items) c.args.by c.index_mut.result.now refl node c.index_mut.ensures.value in
+    let at = seat_read seats.items c.args.by c.index_mut.result.now (ap (λ (n : NetParts). n.nodes) c.self.view_is) c.requires.node c.index_mut.ensures.value in
     let free = subst (λ (n : NetParts). is_full n (event.Publish c.args.by) ≡ false) (sym c.self.view_is) c.requires.room in
     let step : length steps < c.self.inside.most_steps = room_for_step net (event.Publish c.args.by) free in
     let some : length (pool_items pool.items) < c.self.inside.most_items = room_for_item net (event.Publish c.args.by) free refl in
@@ -126,11 +97,7 @@ returns-clause-kept g c =
     let pool = c.self.inside.pool in
     let seats = c.self.inside.seats in
     let steps = c.self.inside.steps.items in
-    let net : NetParts = seen c.self.inside.header seats.items c.self.inside.most_items c.self.inside.most_steps pool.items steps in
-    let node : c.args.by < length seats.items =
-    omega (arith, subst (λ (n : NetParts). c.args.by < length n.nodes) (sym c.self.view_is) c.requires.node, length-map seats.items (λ (s : Seat _). node_kind s.node)) in
-    let at : slice_get seats.items c.args.by ≡ Some c.index_mut.result.now =
-    slice_get_read seats.items (length seats.items) c.args.by c.index_mut.result.now refl node c.index_mut.ensures.value in
+    let at = seat_read seats.items c.args.by c.index_mut.result.now (ap (λ (n : NetParts). n.nodes) c.self.view_is) c.requires.node c.index_mut.ensures.value in
     subst (λ (n : NetParts). IsSameNet n (seen c.self.inside.header (set seats.items c.args.by c.copied-claim.new.seat) c.self.inside.most_items c.self.inside.most_steps
     c.push_reserved.new.self.items c.push_reserved-2.new.self.items)) c.self.view_is
     (record {
@@ -148,10 +115,7 @@ returns-clause-published g c =
     let seats = c.self.inside.seats in
     let steps = c.self.inside.steps.items in
     let net : NetParts = seen c.self.inside.header seats.items c.self.inside.most_items c.self.inside.most_steps pool.items steps in
-    let node : c.args.by < length seats.items =
-    omega (arith, subst (λ (n : NetParts). c.args.by < length n.nodes) (sym c.self.view_is) c.requires.node, length-map seats.items (λ (s : Seat _). node_kind s.node)) in
-    let at : slice_get seats.items c.args.by ≡ Some c.index_mut.result.now =
-    slice_get_read seats.items (length seats.items) c.args.by c.index_mut.result.now refl node c.index_mut.ensures.value in
+    let at = seat_read seats.items c.args.by c.index_mut.result.now (ap (λ (n : NetParts). n.nodes) c.self.view_is) c.requires.node c.index_mut.ensures.value in
     let copied = c.copied-claim.ensures in
     let length_is : c.len-place.result ≡ length (pool_items pool.items) =
     omega (arith, c.len-place.ensures, pool.ok.0, length-map pool.items (λ (e : Entry). e.item)) in

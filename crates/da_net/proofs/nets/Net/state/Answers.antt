@@ -1,11 +1,8 @@
-use Rattle.std.proofs.Common.{◌≡◌, ◌∙◌, ◌<◌, Some, None, length, slice_get, refl, sym, subst, arith}
-use Rattle.std.proofs.lemmas.List.{length-map}
-use Rattle.std.proofs.lemmas.Option.{slice_get_read}
-use Rattle.da_net.specs.declared.seats.Seat.{Seat}
+use Rattle.std.proofs.Common.{◌≡◌, ◌∙◌, None, subst}
 use Rattle.da_net.specs.Networks.{handed, IsRun}
 use Rattle.da_net.specs.Nets.{NetParts, network_of, alarm_at, HasState}
-use Rattle.da_net.specs.Seats.{node_kind, pool_items}
-use Rattle.da_net.proofs.NetLemmas.{alarm_there, standing_there}
+use Rattle.da_net.specs.Seats.{pool_items}
+use Rattle.da_net.proofs.NetLemmas.{alarm_there, standing_there, seat_read}
 use Rattle.da_net.proofs.StateLemmas.{state_rejects, state_settled, state_names, node_calm}
 use Rattle.da_net.proofs.nets.Net.state.Goals as goal
 
@@ -13,10 +10,7 @@ use Rattle.da_net.proofs.nets.Net.state.Goals as goal
 pub returns-clause-state : goal.returns-clause-state
 returns-clause-state g c =
     let seats = c.self.inside.seats in
-    let node : c.args.node < length seats.items =
-    omega (arith, subst (λ (n : NetParts). c.args.node < length n.nodes) (sym c.self.view_is) c.requires, length-map seats.items (λ (s : Seat _). node_kind s.node)) in
-    let at : slice_get seats.items c.args.node ≡ Some c.index.result.now =
-    slice_get_read seats.items (length seats.items) c.args.node c.index.result.now refl node c.index.ensures in
+    let at = seat_read seats.items c.args.node c.index.result.now (ap (λ (n : NetParts). n.nodes) c.self.view_is) c.requires c.index.ensures in
     let items = handed (pool_items c.self.inside.pool.items) c.self.inside.steps.items c.args.node in
     subst (λ (n : NetParts). HasState n c.args.node c.state.result) c.self.view_is
     (standing_there c.self.inside.header seats.items c.self.inside.most_items c.self.inside.most_steps c.self.inside.pool.items c.self.inside.steps.items
@@ -37,10 +31,7 @@ returns-clause-own g c =
 pub returns-clause-calm : goal.returns-clause-calm
 returns-clause-calm g c = λ not_rejected not_clash.
     let seats = c.self.inside.seats in
-    let node : c.args.node < length seats.items =
-    omega (arith, subst (λ (n : NetParts). c.args.node < length n.nodes) (sym c.self.view_is) c.requires, length-map seats.items (λ (s : Seat _). node_kind s.node)) in
-    let at : slice_get seats.items c.args.node ≡ Some c.index.result.now =
-    slice_get_read seats.items (length seats.items) c.args.node c.index.result.now refl node c.index.ensures in
+    let at = seat_read seats.items c.args.node c.index.result.now (ap (λ (n : NetParts). n.nodes) c.self.view_is) c.requires c.index.ensures in
     let items = handed (pool_items c.self.inside.pool.items) c.self.inside.steps.items c.args.node in
     let found = c.state.ensures c.self.inside.header items (c.self.invariant.1.seated c.args.node c.index.result.now at) in
     subst (λ (n : NetParts). alarm_at n c.args.node ≡ None) c.self.view_is
