@@ -6,8 +6,8 @@ ghost use Rattle.da_exchanging.specs.Answers.{ns_answer_of, ns_answer_in};
 
 use axis_roots::NsAnswer;
 use da_files::{Unread, reason};
-use da_wire::{Frame, read_only, wire_laws};
-use namespace_id::{Namespace, bytes_law};
+use da_wire::{Frame, read_only};
+use namespace_id::Namespace;
 use std::alloc::Global;
 
 /// The answer for a namespace that a frame is.
@@ -27,8 +27,6 @@ fn answer_of(frame: Frame) -> Option<(Namespace, NsAnswer)>
 pub(crate) fn answer_in(alloc: Global, bytes: &[u8]) -> Result<(Namespace, NsAnswer), Unread>
     ensures { ReadsSingle result (ns_answer_in bytes.now) }
 {
-    wire_laws();
-    bytes_law(bytes);
     match read_only(alloc, bytes, b"N") {
         Ok(frame) => match answer_of(frame) {
             Some(answer) => Ok(answer),

@@ -22,7 +22,7 @@ use celestia_pb::{
 use da_files::{Unread, file, reason};
 use da_status::Status;
 use da_wire::{Frame, read_only, wire_laws};
-use namespace_id::{Axis, Cell, Namespace, bytes_law, namespace_law};
+use namespace_id::{Axis, Cell, Namespace, namespace_law};
 use std::alloc::Global;
 
 /// The cell whose sample a frame asks for.
@@ -55,8 +55,6 @@ fn name_of(frame: Frame) -> Option<Namespace>
 fn asked_cell_in(alloc: Global, bytes: &[u8]) -> Result<Cell, Unread>
     ensures { ReadsSingle result (asked_cell_in bytes.now) }
 {
-    wire_laws();
-    bytes_law(bytes);
     match read_only(alloc, bytes, b"Q") {
         Ok(frame) => match cell_of(frame) {
             Some(cell) => Ok(cell),
@@ -70,8 +68,6 @@ fn asked_cell_in(alloc: Global, bytes: &[u8]) -> Result<Cell, Unread>
 fn asked_name_in(alloc: Global, bytes: &[u8]) -> Result<Namespace, Unread>
     ensures { ReadsSingle result (asked_name_in bytes.now) }
 {
-    wire_laws();
-    bytes_law(bytes);
     match read_only(alloc, bytes, b"P") {
         Ok(frame) => match name_of(frame) {
             Some(name) => Ok(name),

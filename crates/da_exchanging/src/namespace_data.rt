@@ -130,8 +130,6 @@ fn entries_of(frame: Frame) -> Option<NsAnswer>
 fn entries_in(alloc: Global, bytes: &[u8]) -> Result<NsAnswer, Unread>
     ensures { ReadsSingle result (entries_in bytes.now) }
 {
-    wire_laws();
-    bytes_law(bytes);
     match read_only(alloc, bytes, b"N") {
         Ok(frame) => match entries_of(frame) {
             Some(answer) => Ok(answer),

@@ -17,7 +17,6 @@ use celestia_pb::{put_share_proof, read_share_proof, share_proof_size};
 use da_files::{Unread, file, reason};
 use da_status::{Asked, Status};
 use da_wire::{Frame, frame_law, read_only, wire_laws};
-use namespace_id::bytes_law;
 use std::alloc::Global;
 
 /// The root proof that a frame is.
@@ -37,8 +36,6 @@ fn rooted_of(frame: Frame) -> Option<RootedMessage>
 fn rooted_in(alloc: Global, bytes: &[u8]) -> Result<RootedMessage, Unread>
     ensures { ReadsSingle result (rooted_in bytes.now) }
 {
-    wire_laws();
-    bytes_law(bytes);
     match read_only(alloc, bytes, b"R") {
         Ok(frame) => match rooted_of(frame) {
             Some(proof) => Ok(proof),

@@ -1,14 +1,17 @@
 -- Files of one frame: what a reader of one kind gives, and memory that runs out in place of a value alone.
-use Rattle.std.proofs.Common.{◌≡◌, ◌∙◌, ℕ, List, None, Some, Result, Ok, Err, IsOk, IsSome, refl, sym, ap, subst, inl, inr}
+use Rattle.std.proofs.Common.{◌≡◌, ◌∙◌, ℕ, true, List, None, Some, Result, Ok, Err, IsOk, IsSome, refl, sym, ap, subst, inl, inr}
 use Rattle.std.specs.declared.option.Option.{Option}
 use Rattle.std.specs.Option.{option_map_or}
 use Rattle.da_wire.specs.declared.frames.Frame.{Frame}
 use Rattle.da_wire.specs.declared.frames.FrameError.{FrameError}
 use Rattle.da_wire.specs.declared.frames.FrameError.TheVariants.{BadKind, NoMemory}
-use Rattle.da_wire.specs.Reading.{only_of, Reads, ReadsAt}
+use Rattle.da_wire.specs.Reading.{is_among, only_of, Reads, ReadsAt}
+use Rattle.da_wire.specs.Writing.{kind_of}
 use Rattle.da_wire.specs.Single.{single as read_single}
+use Rattle.da_wire.proofs.OnlyLemmas.{only_kind}
 use Rattle.da_wire.proofs.SingleLemmas.{IsNotFull, only_not_full, single_not_full}
 use Rattle.da_wire.specs.Streams.{offset_of}
+use Rattle.da_files.specs.declared.frames.Unread.{Unread}
 use Rattle.da_files.specs.Frames.{single_file, unread_of, ReadsSingle}
 
 module _ {A : Type 0} where
@@ -50,11 +53,12 @@ module _ {A : Type 0} where
   reads_at (Err e) read h = inr h
 
   -- why a file was not read as one frame of a kind
-  pub is_unread : (value : Frame → Option A) (bytes kinds : List ℕ) (error : FrameError)
-      → Reads NoMemory (λ (a : A). a) (Err error) (read_single value (only_of bytes kinds)) → ReadsSingle (Err (unread_of error)) (single_file value (only_of bytes kinds))
-  is_unread value bytes kinds error h =
-      subst (λ (x : Result A ℕ). ReadsSingle (Err (unread_of error)) x) (sym (told value (only_of bytes kinds)))
-      (unread error (read_single value (only_of bytes kinds)) (single_not_full value (only_of bytes kinds) (only_not_full bytes kinds)) h)
+  pub is_unread : (value : Frame → Option A) (bytes kinds : List ℕ) (error : FrameError) (why : Unread) → why ≡ unread_of error
+      → Reads NoMemory (λ (a : A). a) (Err error) (read_single value (only_of bytes kinds)) → ReadsSingle (Err why) (single_file value (only_of bytes kinds))
+  is_unread value bytes kinds error why same h =
+      subst (λ (w : Unread). ReadsSingle (Err w) (single_file value (only_of bytes kinds))) (sym same)
+      (subst (λ (x : Result A ℕ). ReadsSingle (Err (unread_of error)) x) (sym (told value (only_of bytes kinds)))
+      (unread error (read_single value (only_of bytes kinds)) (single_not_full value (only_of bytes kinds) (only_not_full bytes kinds)) h))
 
   -- a value that there is is what a frame is read as
   some_ok : (o : Option A) → IsSome o → IsOk {T = A} {E = FrameError} (option_map_or Ok o (Err (BadKind 0)))
@@ -68,9 +72,10 @@ module _ {A : Type 0} where
   value_ok value (Err e) some ok = absurd cc
 
   -- why a file was not read as one frame of some kinds, which all have values
-  pub values_unread : (value : Frame → Option A) (bytes kinds : List ℕ) (error : FrameError)
-      → ((frame : Frame) → only_of bytes kinds ≡ Ok frame → IsSome (value frame)) → Reads NoMemory (λ (v : Frame). v) (Err error) (only_of bytes kinds)
-      → ReadsSingle (Err (unread_of error)) (single_file value (only_of bytes kinds))
-  values_unread value bytes kinds error some (inl full) =
-      is_unread value bytes kinds error (inl (full.0, value_ok value (only_of bytes kinds) some full.1))
-  values_unread value bytes kinds error some (inr e) = is_unread value bytes kinds error (inr (ap (read_single value) e))
+  pub values_unread : (value : Frame → Option A) (kinds : List ℕ) → ((frame : Frame) → is_among kinds (kind_of frame) ≡ true → IsSome (value frame))
+      → (bytes : List ℕ) (error : FrameError) (why : Unread) → why ≡ unread_of error → Reads NoMemory (λ (v : Frame). v) (Err error) (only_of bytes kinds)
+      → ReadsSingle (Err why) (single_file value (only_of bytes kinds))
+  values_unread value kinds there bytes error why same (inl full) =
+      is_unread value bytes kinds error why same
+      (inl (full.0, value_ok value (only_of bytes kinds) (λ frame read. there frame (only_kind bytes kinds frame read)) full.1))
+  values_unread value kinds there bytes error why same (inr e) = is_unread value bytes kinds error why same (inr (ap (read_single value) e))

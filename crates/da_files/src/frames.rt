@@ -23,7 +23,7 @@ use da_wire::{
 use data_header::Header;
 use frame_payloads::UnitList;
 use hash_clash::Clash;
-use namespace_id::{Cells, bytes_law, shares_law};
+use namespace_id::{Cells, shares_law};
 use square_layout::{Block, Square};
 use std::alloc::Global;
 
@@ -58,8 +58,8 @@ pub fn reason(error: FrameError) -> Unread
     }
 }
 
-/// What a file is, by what its reader answered.
-fn in_file<A>(read: Result<A, FrameError>) -> Result<A, Unread>
+/// What a file of one frame is, by what the reader of its kind answered.
+pub fn in_file<A>(read: Result<A, FrameError>) -> Result<A, Unread>
     ensures { (value : Frame → Option A) (bytes kinds : List ℕ) →
         Reads NoMemory (λ x. x) read (single value (only_of bytes kinds)) →
         ReadsSingle result (single_file value (only_of bytes kinds)) }
@@ -123,8 +123,6 @@ fn block_or_list_of(frame: Frame) -> Option<BlockOrList>
 pub fn block_or_list_in(alloc: Global, bytes: &[u8]) -> Result<BlockOrList, Unread>
     ensures { ReadsSingle result (block_or_list_in bytes.now) }
 {
-    wire_laws();
-    bytes_law(bytes);
     match read_only(alloc, bytes, b"VT") {
         Ok(frame) => match block_or_list_of(frame) {
             Some(value) => Ok(value),

@@ -15,7 +15,7 @@ pub use files::file;
 pub use forms::{header_and_messages, one_block, one_header, one_square, square_and_requests};
 pub use frames::{
     BlockOrList, Unread, block_or_list_in, claim_frame, claim_in, clash_frame, give, give_with,
-    header_in, is_long, message_in, missing_frame, put, reason, square_frame, square_in,
+    header_in, in_file, is_long, message_in, missing_frame, put, reason, square_frame, square_in,
 };
 pub use lines::hash_line;
 pub use requests::next_name;

@@ -25,9 +25,9 @@ use blob_commit::{CommitProof, CommitRefusal, RootedMessage, RootedRefusal, chec
 use da_files::{Unread, file, put, reason};
 use da_io::Sink;
 use da_status::{Line, Status, around};
-use da_wire::{read_only, wire_laws};
+use da_wire::read_only;
 use data_header::{Header, data_root};
-use namespace_id::{NoMemory, bytes_law};
+use namespace_id::NoMemory;
 use square_serve::{NsRefusal, check_namespace};
 use std::alloc::Global;
 
@@ -38,8 +38,6 @@ const REQUEST: u32 = 2;
 pub fn answer_in(alloc: Global, bytes: &[u8]) -> Result<Answer, Unread>
     ensures { ReadsSingle result (answer_in bytes.now) }
 {
-    wire_laws();
-    bytes_law(bytes);
     match read_only(alloc, bytes, b"MNBCR") {
         Ok(frame) => match answer_of(frame) {
             Some(answer) => Ok(answer),
@@ -53,8 +51,6 @@ pub fn answer_in(alloc: Global, bytes: &[u8]) -> Result<Answer, Unread>
 pub fn request_in(alloc: Global, bytes: &[u8]) -> Result<Request, Unread>
     ensures { ReadsSingle result (request_in bytes.now) }
 {
-    wire_laws();
-    bytes_law(bytes);
     match read_only(alloc, bytes, b"QP") {
         Ok(frame) => match request_of(frame) {
             Some(request) => Ok(request),

@@ -1,15 +1,18 @@
 -- What the command build answers.
-use Rattle.std.proofs.Common.{◌≡◌, ℕ, List, Some, None, refl, sym, subst}
-use Rattle.std.specs.Prelude.{MatchOption}
+use Rattle.std.proofs.Common.{◌≡◌, ℕ, ◌≤◌, min, List, Some, None, sym, subst, ltb-false}
+use Rattle.std.specs.Prelude.{MatchOption, nat_lt}
 use Rattle.std.specs.declared.option.Option.{Option}
-use Rattle.std.specs.Option.{option_or}
+use Rattle.namespace_id.proofs.RefusalLemmas.{if_none}
 use Rattle.square_layout.specs.Layout.{block_square}
-use Rattle.square_layout.specs.Refusals.{layout_refusal}
-use Rattle.tx_list.specs.declared.refusals.ListError.{ListError}
+use Rattle.square_layout.specs.Refusals.{max_shares, most_told, layout_refusal}
+use Rattle.square_layout.proofs.AcceptedLemmas.{no_refusal}
+use Rattle.tx_list.specs.declared.refusals.ListError.TheVariants.{TooLarge}
+use Rattle.tx_list.specs.Payments.{ListParts}
 use Rattle.tx_list.specs.Reads.{list_of}
 use Rattle.tx_list.specs.Lists.{square_of_list}
 use Rattle.tx_list.specs.ReadRefusals.{read_refusal}
 use Rattle.tx_list.specs.Refusals.{list_size_refusal}
+use Rattle.tx_list.specs.Reserves.{list_bound}
 use Rattle.da_wire.specs.declared.frames.Frame.TheVariants.{Square}
 use Rattle.da_wire.specs.Spelling.{spelling}
 use Rattle.da_status.specs.declared.status.Status.{Status}
@@ -42,23 +45,16 @@ module _ {E : Type 0} (refused : E → Status) where
 
 -- ---- lists of transactions
 
--- of two refusals the second is none where there is none
-later_none : (a b : Option ListError) → option_or a b ≡ None → b ≡ None
-later_none None b e = e
-later_none (Some why) b e = absurd cc
-
--- nor is the first
-first_none : (a b : Option ListError) → option_or a b ≡ None → a ≡ None
-first_none None b e = refl
-first_none (Some why) b e = absurd cc
-
 -- transactions without a refusal are read, and not refused for their size
 pub both_fine : (transactions : List (List ℕ)) → list_refusal transactions ≡ None
     → (read_refusal transactions ≡ None) × (list_size_refusal (list_of transactions) ≡ None)
-both_fine transactions fine = (
-  first_none (read_refusal transactions) (list_size_refusal (list_of transactions)) fine,
-  later_none (read_refusal transactions) (list_size_refusal (list_of transactions)) fine,
-)
+both_fine transactions fine = no_refusal (read_refusal transactions) (list_size_refusal (list_of transactions)) (sym fine)
+
+-- a list that isn't refused for its size takes no more shares than the greatest square has
+pub list_few : (list : ListParts) → list_size_refusal list ≡ None → list_bound list ≤ max_shares
+list_few list fine =
+    let bound : ℕ = list_bound list in
+    ltb-false max_shares bound (if_none (nat_lt max_shares bound) (TooLarge (min bound most_told)) None fine).0
 
 -- ---- what build answers to its files
 

@@ -1,9 +1,9 @@
 -- What is answered of the blobs of a list of transactions in its square.
-use Rattle.std.proofs.Common.{true, false, cond, ◌≡◌, ◌∙◌, ◌↔◌, ℕ, ◌+◌, ◌-◌, ◌*◌, ◌%◌, ◌≤◌, ◌==◌, nat_lt, nat_le, min, Bool, List, [], ◌∷◌, ◌++◌, length, take, drop, replicate, codes, None, Ok, Result, refl, sym, ap, ap₂, subst, arith, inl, inr, ⊎_elim, append_assoc, length-append}
+use Rattle.std.proofs.Common.{true, false, cond, ◌≡◌, ◌∙◌, ◌↔◌, ℕ, ◌+◌, ◌-◌, ◌*◌, ◌%◌, ◌≤◌, ◌==◌, nat_lt, nat_le, Bool, List, [], ◌∷◌, ◌++◌, length, take, drop, replicate, codes, None, Ok, Result, refl, sym, ap, ap₂, subst, arith, inl, inr, ⊎_elim, append_assoc, length-append}
 use Rattle.std.specs.List.{AllByRecursion, flat_map, Contains}
 use Rattle.std.specs.Str.{bytes_eq}
 use Rattle.std.proofs.Math.Seq.{drop-append_seam}
-use Rattle.std.proofs.lemmas.Bool.{or_from, ltb-false, lt-ltb, le-leb, eq-eqb}
+use Rattle.std.proofs.lemmas.Bool.{or_from, lt-ltb, le-leb, eq-eqb}
 use Rattle.std.proofs.lemmas.Bool.Decides.{nat_tests}
 use Rattle.std.proofs.lemmas.List.Elements.{Contains-append_right}
 use Rattle.std.proofs.lemmas.Slice.Eq.{bytes_eq-Decides}
@@ -11,10 +11,10 @@ use Rattle.namespace_id.specs.declared.shares.Share.{Share}
 use Rattle.namespace_id.proofs.MemberLemmas.{contains_head, contains_none}
 use Rattle.namespace_id.specs.Names.{is_blob_namespace, transaction, pay_for_blob, primary_reserved_padding, tail_padding}
 use Rattle.namespace_id.specs.Shares.{AreShares}
-use Rattle.namespace_id.proofs.RefusalLemmas.{if_none}
 use Rattle.data_header.specs.Headers.{Roots}
 use Rattle.data_header.specs.DataRoots.{data_root_of}
 use Rattle.nmt_proofs.proofs.Agreement.MadeLemmas.{and_true}
+use Rattle.nmt_proofs.proofs.Parts.ListLemmas.{each-append, each-drop}
 use Rattle.share_split.specs.declared.joining.JoinError.{JoinError}
 use Rattle.share_split.specs.Widths.{subtree_width_of}
 use Rattle.share_split.specs.Blobs.{NamedBytes, IsNamed}
@@ -23,13 +23,12 @@ use Rattle.share_split.specs.Joined.{Piece, padding_share, piece_blobs, IsBlob, 
 use Rattle.share_split.specs.Walks.{blobs_joined}
 use Rattle.square_layout.specs.Blocks.{SquareShares}
 use Rattle.square_layout.specs.Layout.{in_order, share_count_of, start_after, end_of, placed_behind}
-use Rattle.square_layout.specs.Refusals.{max_shares, most_named}
+use Rattle.square_layout.specs.Refusals.{max_shares}
 use Rattle.square_layout.specs.Plans.{PlanParts, front, lead, planned, plan_width, square_of_plan}
 use Rattle.square_layout.proofs.BlobOrderLemmas.{All-in_order}
 use Rattle.square_layout.proofs.PlanLemmas.{length-front, lead-in_order}
 use Rattle.square_layout.proofs.ReadBackLemmas.{plan_blobs}
 use Rattle.square_layout.proofs.ShareNameLemmas.{unit_shares_of-named}
-use Rattle.tx_list.specs.declared.refusals.ListError.TheVariants.{TooLarge}
 use Rattle.tx_list.specs.Payments.{ListParts, IsPayment, blobs_of as blobs_in}
 use Rattle.tx_list.specs.Reserves.{list_reserve, list_bound}
 use Rattle.tx_list.specs.Reads.{list_of}
@@ -54,8 +53,8 @@ use Rattle.da_serving.specs.Commit.{commitment_of}
 use Rattle.da_serving.specs.Find.{range_line, AreFound, compact_front, found_status, Finds}
 use Rattle.da_serving.specs.Prove.{ProvesIn, ProvesRange}
 use Rattle.da_serving.specs.Stated.{IsBuilt, ProvesBlob, ranges_from, ranges_of, range_lines, WritesRanges}
-use Rattle.da_serving.proofs.BuildLemmas.{both_fine}
-use Rattle.da_serving.proofs.BackLemmas.{AreCompactShares, AreOtherShares, each_append, each_drop, behind_front, behind_others, transactions_compact, payments_compact}
+use Rattle.da_serving.proofs.BuildLemmas.{both_fine, list_few}
+use Rattle.da_serving.proofs.BackLemmas.{AreCompactShares, AreOtherShares, behind_front, behind_others, named_compact}
 use Rattle.da_serving.proofs.FindLemmas.{found_by, found_same}
 use Rattle.da_serving.proofs.LineLemmas.{plan_lines}
 
@@ -63,10 +62,7 @@ use Rattle.da_serving.proofs.LineLemmas.{plan_lines}
 
 -- a list that isn't refused takes no more shares than the greatest square has
 pub built_few : (transactions : List (List ℕ)) → IsBuilt transactions → list_bound (list_of transactions) ≤ max_shares
-built_few transactions is =
-    let bound : ℕ = list_bound (list_of transactions) in
-    let within = if_none (nat_lt max_shares bound) (TooLarge (min bound most_named)) None (both_fine transactions is.accepted).1 in
-    ltb-false max_shares bound within.0
+built_few transactions is = list_few (list_of transactions) (both_fine transactions is.accepted).1
 
 -- ---- a proof of a blob's range
 
@@ -116,8 +112,8 @@ front_compact : (plan : PlanParts) → AreCompactShares (front plan)
 front_compact plan =
     let one : List Share = unit_shares_of transaction plan.units in
     let two : List Share = unit_shares_of pay_for_blob plan.pay_units in
-    each_append (λ s. is_compact s ≡ true) one two (transactions_compact one (unit_shares_of-named transaction plan.units refl))
-    (payments_compact two (unit_shares_of-named pay_for_blob plan.pay_units refl))
+    each-append (λ s. is_compact s ≡ true) one two (named_compact true transaction one refl (unit_shares_of-named transaction plan.units refl))
+    (named_compact true pay_for_blob two refl (unit_shares_of-named pay_for_blob plan.pay_units refl))
 
 -- the shares of a plan's square are its compact ones, and those behind
 plan_whole : (plan : PlanParts) → (square_of_plan plan).shares ≡ front plan ++ behind_fronts plan
@@ -193,7 +189,7 @@ list_seen list is =
     record {
       behind = plan_behind plan named;
       count = plan_compact plan named;
-      fits = subst AreShares rest (each_drop _ (length (front plan)) (square_of_plan plan).shares is.shares);
+      fits = subst AreShares rest (each-drop _ (length (front plan)) (square_of_plan plan).shares is.shares);
       are = subst (λ (l : List Share). AreBlobs l (in_order plan.blobs)) rest (plan_blobs plan is.blobs);
     }
 

@@ -14,13 +14,13 @@ ghost use Rattle.da_files.specs.Forms.{single_judged};
 ghost use Rattle.da_status.specs.Judging.{Judged};
 ghost use Rattle.da_status.specs.Outcome.{EndsAtOnce};
 
-use blob_commit::{CommitError, commitment_of, range_laws};
+use blob_commit::{CommitError, commitment_of};
 use da_files::{BlockOrList, hash_line, one_block, put};
 use da_io::Sink;
 use da_status::Status;
 use namespace_id::NoMemory;
 use share_split::{Blob, Unit};
-use square_layout::{Block, LayError, lay, order_laws, size_laws};
+use square_layout::{Block, LayError, lay};
 use std::alloc::Global;
 use tx_list::{ListError, Payment, places, read_list};
 
@@ -86,9 +86,6 @@ fn block_lines(alloc: Global, block: &Block) -> Result<Vec<u8>, LayError>
     ensures first { AnswersLaying result (layout_refusal block.now) }
     ensures lines { IfOk result (λ text. text.items ≡ commitment_lines block.now.blobs) }
 {
-    order_laws();
-    size_laws();
-    range_laws();
     drop(lay(alloc, block)?);
     let mut text = Vec::new(alloc);
     match put_lines(alloc, &block.blobs, &mut text) {

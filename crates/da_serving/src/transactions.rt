@@ -30,9 +30,7 @@ fn unlay<O: Sink>(alloc: Global, square: &Square, out: &mut O) -> Status
     };
     let frame = Frame::Transactions(UnitList { list });
     let mut text = Vec::new(alloc);
-    let written = write_frame(&frame, &mut text);
-    drop(frame);
-    match written {
+    match write_frame(&frame, &mut text) {
         Ok(()) => put(&text, Status::Done, out),
         Err(SpellError::Unspellable) => Status::BadRequest(Asked::LongList),
         Err(SpellError::NoMemory) => Status::NoMemory,

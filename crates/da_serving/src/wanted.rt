@@ -11,7 +11,7 @@ ghost use Rattle.da_status.specs.Judging.{Judged};
 ghost use Rattle.da_status.specs.declared.status.Status.TheVariants as StatusOf;
 ghost use Rattle.da_status.specs.Outcome.{EndsAtOnce};
 
-use da_files::{Unread, file, put, reason};
+use da_files::{Unread, file, in_file, put};
 use da_io::Sink;
 use da_status::Status;
 use da_wire::{Frame, SpellError, read_missing, wire_laws, write_frame};
@@ -25,10 +25,7 @@ const MISSING: u32 = 0;
 fn missing_in(alloc: Global, bytes: &[u8]) -> Result<Cells, Unread>
     ensures { ReadsSingle result (missing_in bytes.now) }
 {
-    match read_missing(alloc, bytes) {
-        Ok(cells) => Ok(cells),
-        Err(error) => Err(reason(error)),
-    }
+    in_file(read_missing(alloc, bytes))
 }
 
 /// Appends the request for the sample of a cell along an axis.

@@ -6,10 +6,11 @@ use Rattle.da_wire.specs.declared.frames.Frame.{Frame}
 use Rattle.da_wire.specs.declared.frames.FrameError.{FrameError}
 use Rattle.da_wire.specs.declared.frames.FrameError.TheVariants.{Trailing}
 use Rattle.da_wire.specs.Spelling.{spelling, IsFrame}
-use Rattle.da_wire.specs.Reading.{is_among, tested_frame, ended, only_of}
+use Rattle.da_wire.specs.Reading.{is_among, tested_raw, tested_frame, ended, only_of}
 use Rattle.da_wire.specs.Writing.{kind_of}
 use Rattle.da_wire.specs.Laws.{OnlyIsSpelled, IsSpelledFront}
-use Rattle.da_wire.proofs.FrameLemmas.{Answer, tested_read, tested_spelled}
+use Rattle.da_wire.proofs.FrameLemmas.{Answer, raw_some, tested_read, tested_spelled}
+use Rattle.da_wire.proofs.KindLemmas.{value_among}
 
 -- a value that is answered behind a test passed it
 ended_cond : (b : Bool) (why : FrameError) (v value : Frame) → ◌≡◌ {A = Result Frame FrameError} (cond b (Err why) (Ok v)) (Ok value) → (b ≡ false) × (v ≡ value)
@@ -22,6 +23,13 @@ ended_ok size (Err why) value e = absurd cc
 ended_ok size (Ok x) value e =
     let c = ended_cond (ltb x.1 size) (Trailing x.1) x.0 value e in
     (x.1, ap (λ (v : Frame). Ok (v, x.1)) c.1, ltb-false x.1 size c.0)
+
+-- the one frame that bytes are read as is of one of these kinds
+pub only_kind : (bytes kinds : List ℕ) (frame : Frame) → only_of bytes kinds ≡ Ok frame → is_among kinds (kind_of frame) ≡ true
+only_kind bytes kinds frame e =
+    let o = ended_ok (length bytes) (tested_frame (is_among kinds) 0 bytes) frame e in
+    let r = raw_some 0 (tested_raw (is_among kinds) 0 bytes) frame o.0 o.1 in
+    value_among kinds bytes r.0 frame r.1 r.2
 
 -- nothing follows the spelling of what is read
 only_spelled : (value : Frame) (bytes kinds : List ℕ) → AreBytes bytes → only_of bytes kinds ≡ Ok value

@@ -117,7 +117,7 @@ blobs_between (blob ∷ blobs) h = (accepted_between blob (accepted_is blob.name
 -- ---- the blobs of a block, as calls see them
 
 -- neither of two refusals is there where their first is none
-pub no_refusal : (a b : Option LayError) → None ≡ option_or a b → (a ≡ None) × (b ≡ None)
+pub no_refusal : {E : Type 0} (a b : Option E) → None ≡ option_or a b → (a ≡ None) × (b ≡ None)
 no_refusal None b h = (refl, sym h)
 no_refusal (Some e) b h = absurd cc
 

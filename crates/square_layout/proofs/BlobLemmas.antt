@@ -44,15 +44,21 @@ are_blobs law [] named some held = tt
 are_blobs law (one ∷ blobs) named some held =
     (is_blob law one named.0 some.0 held.0, are_blobs law blobs named.1 some.1 held.1)
 
+-- the blobs of a block that isn't refused have bytes, and none takes more shares than the greatest square
+pub laid_few : (block : BlockParts) → layout_refusal block ≡ None
+    → HaveBytes block.blobs × AllByRecursion (λ blob. share_count_of blob ≤ max_shares) (in_order block.blobs)
+laid_few block passes =
+    let parts = no_refusal (blobs_refusal block.blobs) (size_refusal block.width (needed block)) (sym passes) in
+    let size = size_passes block.width (needed block) parts.1 in
+    let few : needed block ≤ max_shares = omega (arith, size.1, square_fits (width_for block) size.0) in (
+      no_empty_blob 0 block.blobs (no_refusal (bad_blob 0 block.blobs) (empty_blob 0 block.blobs) (sym parts.0)).1,
+      counts_few (compact_end block) (in_order block.blobs) max_shares (end_fits block max_shares few),
+    )
+
 -- the blobs of a block that isn't refused are blobs, in order too
 pub ordered_are_blobs : FewSharesHoldASequence → (block : BlockParts) → layout_refusal block ≡ None → IsBlock block
     → AllByRecursion IsBlob (in_order block.blobs)
 ordered_are_blobs law block passes is =
-    let parts = no_refusal (blobs_refusal block.blobs) (size_refusal block.width (needed block)) (sym passes) in
-    let some : HaveBytes block.blobs =
-    no_empty_blob 0 block.blobs (no_refusal (bad_blob 0 block.blobs) (empty_blob 0 block.blobs) (sym parts.0)).1 in
-    let size = size_passes block.width (needed block) parts.1 in
-    let few : needed block ≤ max_shares = omega (arith, size.1, square_fits (width_for block) size.0) in
+    let laid = laid_few block passes in
     are_blobs law (in_order block.blobs) (All-in_order IsNamed block.blobs is.blobs)
-    (All-in_order (λ (blob : NamedBytes). 1 ≤ length blob.bytes) block.blobs some)
-    (counts_few (compact_end block) (in_order block.blobs) max_shares (end_fits block max_shares few))
+    (All-in_order (λ (blob : NamedBytes). 1 ≤ length blob.bytes) block.blobs laid.0) laid.1

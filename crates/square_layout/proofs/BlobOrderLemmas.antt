@@ -91,3 +91,20 @@ pub All-in_order : (P : NamedBytes → Type 0) (blobs : List NamedBytes) → All
 unfolding in_order
 All-in_order P [] h = tt
 All-in_order P (blob ∷ blobs) h = All-put_in P blob (in_order blobs) h.0 (All-in_order P blobs h.1)
+
+-- what holds of each blob after one was put among them holds of it and of each of them
+All-from_put_in : (P : NamedBytes → Type 0) (blob : NamedBytes) (blobs : List NamedBytes) → AllByRecursion P (put_in blob blobs) → P blob × AllByRecursion P blobs
+unfolding put_in
+All-from_put_in P blob [] h = (h.0, tt)
+All-from_put_in P blob (other ∷ others) h = by (is_at_most blob.namespace other.namespace) (All-from_put_in P blob others) h
+  where
+    by : (b : Bool) → (AllByRecursion P (put_in blob others) → P blob × AllByRecursion P others)
+        → AllByRecursion P (if b then blob ∷ other ∷ others else other ∷ put_in blob others) → P blob × AllByRecursion P (other ∷ others)
+    by true later h = h
+    by false later h = let rest = later h.1 in (rest.0, (h.0, rest.1))
+
+-- what holds of each of them in order holds of each
+pub All-from_order : (P : NamedBytes → Type 0) (blobs : List NamedBytes) → AllByRecursion P (in_order blobs) → AllByRecursion P blobs
+unfolding in_order
+All-from_order P [] h = tt
+All-from_order P (blob ∷ blobs) h = let parts = All-from_put_in P blob (in_order blobs) h in (parts.0, All-from_order P blobs parts.1)

@@ -1,16 +1,11 @@
-use Rattle.std.proofs.Common.{subst, sym, Err, [], ◌∷◌}
+use Rattle.std.proofs.Common.{[], ◌∷◌}
 use Rattle.da_wire.specs.Spelling.{rooted_kind}
-use Rattle.da_files.specs.declared.frames.Unread.{Unread}
-use Rattle.da_files.specs.Frames.{ReadsSingle}
 use Rattle.da_files.proofs.FrameLemmas.{values_unread}
-use Rattle.da_exchanging.specs.ShareProof.{rooted_of, rooted_in}
+use Rattle.da_exchanging.specs.ShareProof.{rooted_of}
 use Rattle.da_exchanging.proofs.ShareProofLemmas.{rooted_there}
 use Rattle.da_exchanging.proofs.share_proof.rooted_in.Goals as goal
 
 -- memory ran out in place of a value alone
 pub returns-in-Err : goal.returns-in-Err
 returns-in-Err c =
-    let bytes = c.args.bytes.now in
-    subst (λ (why : Unread). ReadsSingle (Err why) (rooted_in bytes)) (sym c.reason.ensures)
-    (values_unread rooted_of bytes (rooted_kind ∷ []) c.in-Err.error
-    (λ frame read. rooted_there frame ((c.wire_laws.ensures.only frame bytes (rooted_kind ∷ []) c.bytes_law.ensures).0 read).2) c.in-Err.ensures.read)
+    values_unread rooted_of (rooted_kind ∷ []) rooted_there c.args.bytes.now c.in-Err.error c.reason.result c.reason.ensures c.in-Err.ensures.read

@@ -14,4 +14,4 @@ returns-in-Ok g c =
     let files = contents_of c.args.files.now in
     once_as (JoinsShares (frame_shares c.in-Ok.frame)) (Judged (single_judged shares_frame files) (BlobsOf files)) _ _ _ _ _ _
     (single_is (λ (frame : Frame). JoinsShares (frame_shares frame)) (shares_frame (shares_file files)) c.in-Ok.frame
-    (ap shares_frame (sym c.file.ensures) ∙ c.in-Ok.ensures.read)) c.give_of.ensures
+    (ap shares_frame (sym c.file.ensures) ∙ c.in-Ok.ensures.read)) c.give_of-status.ensures

@@ -1,7 +1,5 @@
-use Rattle.std.proofs.Common.{Some, subst, sym, refl, Err}
-use Rattle.da_files.specs.declared.frames.Unread.{Unread}
-use Rattle.da_files.specs.Frames.{ReadsSingle}
-use Rattle.da_serving.specs.Blobs.{share_kinds, shares_frame}
+use Rattle.std.proofs.Common.{Some, refl}
+use Rattle.da_serving.specs.Blobs.{share_kinds}
 use Rattle.da_files.proofs.FrameLemmas.{values_unread}
 use Rattle.da_serving.proofs.BlobsLemmas.{read_spelled}
 use Rattle.da_serving.proofs.blobs.shares_in.Goals as goal
@@ -14,5 +12,4 @@ returns-in-Ok-clause-spelled c =
 -- memory ran out in place of a value alone
 pub returns-in-Err-clause-read : goal.returns-in-Err-clause-read
 returns-in-Err-clause-read c =
-    subst (λ (why : Unread). ReadsSingle (Err why) (shares_frame c.args.bytes.now)) (sym c.reason.ensures)
-    (values_unread Some c.args.bytes.now share_kinds c.in-Err.error (λ frame read. refl) c.in-Err.ensures.read)
+    values_unread Some share_kinds (λ frame among. refl) c.args.bytes.now c.in-Err.error c.reason.result c.reason.ensures c.in-Err.ensures.read

@@ -8,11 +8,8 @@ use Rattle.da_serving.proofs.commit.block_lines.Goals as goal
 -- the blobs of a block that isn't refused
 pub put_lines-requires : goal.put_lines-requires
 put_lines-requires c =
-    let block = c.args.block.now in
-    let fine = c.in_ok-lay.ensures.first in
     subst (AllByRecursion IsLaid) (sym (c.deref.ensures.value ∙ ap (λ (b : BlockParts). b.blobs) c.block.view_is))
-    (laid_blobs block c.order_laws.ensures.stable (c.size_laws.ensures.square block fine)
-    (λ before after blob e. c.range_laws.ensures.range block before after blob fine e) fine)
+    (laid_blobs c.args.block.now c.in_ok-lay.ensures.first)
 
 -- what was appended are their lines
 pub returns-in-Ok-clause-lines : goal.returns-in-Ok-clause-lines
