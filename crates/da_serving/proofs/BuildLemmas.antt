@@ -4,7 +4,7 @@ use Rattle.std.specs.Prelude.{MatchOption, nat_lt}
 use Rattle.std.specs.declared.option.Option.{Option}
 use Rattle.namespace_id.proofs.RefusalLemmas.{if_none}
 use Rattle.square_layout.specs.Layout.{block_square}
-use Rattle.square_layout.specs.Refusals.{max_shares, most_told, layout_refusal}
+use Rattle.square_layout.specs.Refusals.{max_shares, most_named, layout_refusal}
 use Rattle.square_layout.proofs.AcceptedLemmas.{no_refusal}
 use Rattle.tx_list.specs.declared.refusals.ListError.TheVariants.{TooLarge}
 use Rattle.tx_list.specs.Payments.{ListParts}
@@ -54,7 +54,7 @@ both_fine transactions fine = no_refusal (read_refusal transactions) (list_size_
 pub list_few : (list : ListParts) → list_size_refusal list ≡ None → list_bound list ≤ max_shares
 list_few list fine =
     let bound : ℕ = list_bound list in
-    ltb-false max_shares bound (if_none (nat_lt max_shares bound) (TooLarge (min bound most_told)) None fine).0
+    ltb-false max_shares bound (if_none (nat_lt max_shares bound) (TooLarge (min bound most_named)) None fine).0
 
 -- ---- what build answers to its files
 
