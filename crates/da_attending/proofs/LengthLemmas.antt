@@ -1,89 +1,31 @@
 -- How long the payloads of headers and namespace answers are at most, whatever their numbers.
-use Rattle.std.proofs.Common.{◌≡◌, ℕ, zero, suc, ◌+◌, ◌*◌, ◌≤◌, Bool, true, false, cond, eqb, ltb, List, [], ◌∷◌, length, take, drop, Option, None, Some, ap, subst, arith, inl, inr, ⊎_elim, ltb-false, eqb-true, length-drop}
+use Rattle.std.proofs.Common.{◌≡◌, ℕ, ◌*◌, ◌≤◌, Bool, true, false, cond, eqb, List, length, Option, None, Some, arith, inl, inr, ⊎_elim, eqb-true}
 use Rattle.std.specs.Prelude.{◌⊎◌, not}
-use Rattle.std.specs.Int.{w16, from_be_bytes}
-use Rattle.std.proofs.Math.Nat.{mul-suc}
+use Rattle.std.specs.Int.{w16}
 use Rattle.std.proofs.lemmas.Bool.{not-false}
-use Rattle.std.proofs.lemmas.Option.{same_Some}
 use Rattle.namespace_id.specs.declared.namespaces.Namespace.{Namespace}
 use Rattle.namespace_id.specs.Cells.{is_width}
 use Rattle.namespace_id.specs.Shares.{share_of}
-use Rattle.namespace_id.specs.Sizes.{digest_size, share_size}
+use Rattle.namespace_id.specs.Sizes.{share_size}
 use Rattle.namespace_id.proofs.WidthLemmas.{is_width-le}
 use Rattle.data_header.specs.Headers.{Roots}
 use Rattle.axis_roots.specs.declared.answers.Found.{Found}
 use Rattle.axis_roots.specs.declared.answers.NsEntry.{NsEntry}
-use Rattle.frame_fields.specs.Fields.{byte_at, string_at, big_endian_at, split_into, digest, path_at, count_at, many_at, list_at}
+use Rattle.frame_fields.specs.Fields.{byte_at, string_at, big_endian_at, split_into, path_at, count_at}
 use Rattle.frame_payloads.specs.Payloads.{max_payload}
 use Rattle.frame_payloads.specs.kinds.Header.{header_at}
 use Rattle.frame_payloads.specs.kinds.Names.{share_list_at, range_at, absence_at, found_at, entry_at, entries_at, names_at}
-use Rattle.frame_payloads.proofs.Fields.Readers.{bind_some, if_false, if_true, front_at}
-
--- ---- readers
-
--- a reader takes so many bytes at most
-abbrev TakesFew : {A : Type 0} → ℕ → (List ℕ → Option (A × List ℕ)) → Type 0
-TakesFew {A} most read = (bytes : List ℕ) (r : A × List ℕ) → read bytes ≡ Some r → length bytes ≤ most + length r.1
-
--- what is left is what was read
-left_of : {A : Type 0} (r s : A × List ℕ) → Some r ≡ Some s → length r.1 ≡ length s.1
-left_of {A} r s e = ap (λ (x : A × List ℕ). length x.1) (same_Some r s e)
-
-byte_few : TakesFew 1 byte_at
-byte_few [] r e = absurd cc
-byte_few (byte ∷ rest) r e = omega (arith, left_of (byte, rest) r e)
-
--- a field of a known length
-front_few : {A : Type 0} (f : List ℕ → A) (size : ℕ) → TakesFew size (front_at f size)
-front_few {A} f size bytes r e =
-    let made : A × List ℕ = (f (take size bytes), drop size bytes) in
-    let g = if_false (ltb (length bytes) size) (Some made) r e in
-    omega (arith, left_of made r g.1, length-drop size bytes)
-
--- a number of two bytes
-number_few : TakesFew 2 (big_endian_at w16)
-number_few bytes r e = front_few (from_be_bytes w16) 2 bytes r e
-
--- a count of two bytes
-count_few : (limit : ℕ) (bytes : List ℕ) (r : ℕ × List ℕ) → count_at w16 limit bytes ≡ Some r → (r.0 ≤ limit) × (length bytes ≤ 2 + length r.1)
-unfolding count_at
-count_few limit bytes r e =
-    let count = bind_some (big_endian_at w16 bytes) _ r e in
-    let few = if_false (ltb limit count.0.0) (Some count.0) r count.2 in
-    let same : count.0 ≡ r = same_Some count.0 r few.1 in (
-      subst (λ (x : ℕ × List ℕ). x.0 ≤ limit) same (ltb-false limit count.0.0 few.0),
-      subst (λ (x : ℕ × List ℕ). length bytes ≤ 2 + length x.1) same (number_few bytes count.0 count.1),
-    )
-
--- nodes of a proof
-nodes_few : TakesFew 1801 (path_at 20)
-unfolding path_at
-nodes_few bytes r e =
-    let count = bind_some (byte_at bytes) _ r e in
-    let few = if_false (ltb 20 count.0.0) _ r count.2 in
-    omega (
-      arith,
-      byte_few bytes count.0 count.1,
-      ltb-false 20 count.0.0 few.0,
-      front_few (split_into digest digest_size count.0.0) (90 * count.0.0) count.0.1 r few.1,
-    )
-
--- so many values
-many_few : {A : Type 0} (most : ℕ) (one : List ℕ → Option (A × List ℕ)) → TakesFew most one → (count : ℕ) → TakesFew (most * count) (many_at one count)
-unfolding many_at
-many_few most one few zero bytes r e = omega (arith, left_of ([], bytes) r e)
-many_few most one few (suc count) bytes r e =
-    let first = bind_some (one bytes) _ r e in
-    let others = bind_some (many_at one count first.0.1) _ r first.2 in
-    omega (arith, few bytes first.0 first.1, many_few most one few count first.0.1 others.0 others.1, left_of _ r others.2, mul-suc most count)
+use Rattle.frame_payloads.proofs.Fields.Readers.{bind_some, if_false, if_true}
+use Rattle.frame_payloads.proofs.Fields.ReadLengths.{TakesFew, left_of, byte_few, front_few, number_few, path_few, counted_few, list_few}
 
 -- ---- answers
 
+-- shares
 shares_few : TakesFew 262146 share_list_at
 unfolding share_list_at
 shares_few bytes r e =
     let count = bind_some (count_at w16 512 bytes) _ r e in
-    let few = count_few 512 bytes count.0 count.1 in
+    let few = counted_few 512 bytes count.0 count.1 in
     omega (arith, few.0, few.1, front_few (split_into share_of share_size count.0.0) (512 * count.0.0) count.0.1 r count.2)
 
 range_few : TakesFew 263949 range_at
@@ -96,7 +38,7 @@ range_few bytes r e =
       arith,
       number_few bytes start.0 start.1,
       shares_few start.0.1 shares.0 shares.1,
-      nodes_few shares.0.1 nodes.0 nodes.1,
+      path_few 20 shares.0.1 nodes.0 nodes.1,
       left_of _ r nodes.2,
     )
 
@@ -110,7 +52,7 @@ absence_few bytes r e =
       arith,
       number_few bytes pos.0 pos.1,
       front_few (λ l. l) 90 pos.0.1 leaf.0 leaf.1,
-      nodes_few leaf.0.1 nodes.0 nodes.1,
+      path_few 20 leaf.0.1 nodes.0 nodes.1,
       left_of _ r nodes.2,
     )
 
@@ -136,12 +78,8 @@ entry_few bytes r e =
     let found = bind_some (found_at row.0.1) _ r row.2 in
     omega (arith, number_few bytes row.0 row.1, found_few row.0.1 found.0 found.1, left_of _ r found.2)
 
-entries_few : (bytes : List ℕ) (r : List NsEntry × List ℕ) → entries_at bytes ≡ Some r → length bytes ≤ 135143426 + length r.1
-unfolding list_at
-entries_few bytes r e =
-    let count = bind_some (count_at w16 512 bytes) _ r e in
-    let few = count_few 512 bytes count.0 count.1 in
-    omega (arith, few.0, few.1, many_few 263952 entry_at entry_few count.0.0 count.0.1 r count.2)
+entries_few : TakesFew 135143426 entries_at
+entries_few = list_few 263952 512 entry_at entry_few
 
 -- no namespace answer is longer than a payload may be
 pub names_few : (payload : List ℕ) (r : Namespace × List NsEntry) → names_at payload ≡ Some r → length payload ≤ max_payload

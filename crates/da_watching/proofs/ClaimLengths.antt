@@ -1,7 +1,7 @@
 -- How long the payloads of samples and fraud claims are at most, whatever their numbers.
-use Rattle.std.proofs.Common.{◌≡◌, ◌∙◌, ℕ, zero, suc, ◌+◌, ◌*◌, ◌≤◌, Bool, true, false, ◌&&◌, ◌||◌, cond, eqb, ltb, List, [], ◌∷◌, length, take, drop, Option, None, Some, sym, ap, subst, arith, inl, inr, ⊎_elim, true≢false, ltb-false, eqb-true, length-drop}
+use Rattle.std.proofs.Common.{◌≡◌, ◌∙◌, ℕ, zero, suc, ◌+◌, ◌*◌, ◌≤◌, Bool, true, false, ◌&&◌, ◌||◌, cond, eqb, List, [], ◌∷◌, length, Option, None, Some, sym, ap, subst, arith, inl, inr, ⊎_elim, true≢false, eqb-true}
 use Rattle.std.specs.Prelude.{◌⊎◌}
-use Rattle.std.specs.Int.{w16, from_be_bytes}
+use Rattle.std.specs.Int.{w16}
 use Rattle.std.specs.List.{list_any}
 use Rattle.std.proofs.Math.Nat.{mul-suc}
 use Rattle.std.proofs.lemmas.Bool.{and_parts, cases_Bool}
@@ -10,39 +10,20 @@ use Rattle.namespace_id.specs.declared.cells.Axis.{Axis}
 use Rattle.namespace_id.specs.declared.cells.Axis.TheVariants.{Row, Col}
 use Rattle.namespace_id.specs.declared.digests.Digest.{Digest}
 use Rattle.namespace_id.specs.Cells.{crossing}
-use Rattle.namespace_id.specs.Sizes.{digest_size}
 use Rattle.axis_roots.specs.declared.message.messages.Message.{Message}
 use Rattle.axis_roots.specs.Sets.{is_along, is_one_axis}
 use Rattle.axis_roots.specs.Claims.{ClaimParts, IsClaim}
-use Rattle.frame_fields.specs.Fields.{byte_at, string_at, big_endian_at, split_into, digest, digests_at, axis_at, cell_at, path_at, count_at, digest_list_at, many_at, list_at}
+use Rattle.frame_fields.specs.Fields.{byte_at, string_at, big_endian_at, axis_at, cell_at, path_at, count_at, digest_list_at, many_at, list_at}
 use Rattle.frame_fields.specs.Messages.{message_front, message_at}
 use Rattle.frame_payloads.specs.kinds.Message.{most_message}
 use Rattle.frame_payloads.specs.kinds.Fraud.{accused_at, claim_cells_at, plain_at, tag_at, cell_path_at, set_cell_at, set_cells_at, with_set_at, fraud_at, fraud_payload, is_unwritten}
-use Rattle.frame_payloads.proofs.Fields.Readers.{bind_some, if_false, if_true, front_at}
+use Rattle.frame_payloads.proofs.Fields.Readers.{bind_some, if_true}
+use Rattle.frame_payloads.proofs.Fields.ReadLengths.{TakesFew, left_of, byte_few, front_few, number_few, digests_few, path_few, counted_few, many_few, list_few}
 use Rattle.frame_payloads.proofs.Forms.FraudForm.{either_one, fraud_form}
 use Rattle.frame_payloads.proofs.Forms.FraudSizes.{fraud_few}
 use Rattle.da_watching.specs.Sizes.{most_claim}
 
 -- ---- readers
-
--- a reader takes so many bytes at most
-abbrev TakesFew : {A : Type 0} → ℕ → (List ℕ → Option (A × List ℕ)) → Type 0
-TakesFew {A} most read = (bytes : List ℕ) (r : A × List ℕ) → read bytes ≡ Some r → length bytes ≤ most + length r.1
-
--- what is left is what was read
-left_of : {A : Type 0} (r s : A × List ℕ) → Some r ≡ Some s → length r.1 ≡ length s.1
-left_of {A} r s e = ap (λ (x : A × List ℕ). length x.1) (same_Some r s e)
-
-byte_few : TakesFew 1 byte_at
-byte_few [] r e = absurd cc
-byte_few (byte ∷ rest) r e = omega (arith, left_of (byte, rest) r e)
-
--- a field of a known length
-front_few : {A : Type 0} (f : List ℕ → A) (size : ℕ) → TakesFew size (front_at f size)
-front_few {A} f size bytes r e =
-    let made : A × List ℕ = (f (take size bytes), drop size bytes) in
-    let g = if_false (ltb (length bytes) size) (Some made) r e in
-    omega (arith, left_of made r g.1, length-drop size bytes)
 
 -- what one of two tests gave
 one_of : {A : Type 0} (a b : Bool) (x y r : A) → cond a (Some x) (cond b (Some y) None) ≡ Some r → (x ≡ r) ⊎ (y ≡ r)
@@ -72,27 +53,12 @@ tag_few axis bytes r e =
     let byte = bind_some (byte_at bytes) (by_byte (crossing axis) axis) r e in
     omega (arith, byte_few bytes byte.0 byte.1, by_byte_few (crossing axis) axis byte.0 r byte.2)
 
--- a number of two bytes
-number_few : TakesFew 2 (big_endian_at w16)
-number_few bytes r e = front_few (from_be_bytes w16) 2 bytes r e
-
 cell_few : TakesFew 4 cell_at
 unfolding cell_at
 cell_few bytes r e =
     let row = bind_some (big_endian_at w16 bytes) _ r e in
     let col = bind_some (big_endian_at w16 row.0.1) _ r row.2 in
     omega (arith, number_few bytes row.0 row.1, number_few row.0.1 col.0 col.1, left_of _ r col.2)
-
--- digests
-digests_few : (count : ℕ) → TakesFew (90 * count) (digests_at count)
-digests_few count bytes r e = front_few (split_into digest digest_size count) (90 * count) bytes r e
-
-path_few : TakesFew 901 (path_at 10)
-unfolding path_at
-path_few bytes r e =
-    let count = bind_some (byte_at bytes) _ r e in
-    let few = if_false (ltb 10 count.0.0) _ r count.2 in
-    omega (arith, byte_few bytes count.0 count.1, ltb-false 10 count.0.0 few.0, digests_few count.0.0 count.0.1 r few.1)
 
 -- ---- samples
 
@@ -108,7 +74,7 @@ message_front_few bytes r e =
       cell_few bytes cell.0 cell.1,
       axis_few cell.0.1 axis.0 axis.1,
       front_few (λ l. l) 512 axis.0.1 share.0 share.1,
-      path_few share.0.1 path.0 path.1,
+      path_few 10 share.0.1 path.0 path.1,
       left_of _ r path.2,
     )
 
@@ -121,15 +87,6 @@ message_few payload m e =
     omega (arith, message_front_few payload front.0 front.1, eqb-true (length front.0.1) 0 whole.0)
 
 -- ---- lists
-
--- a count and so many values
-many_few : {A : Type 0} (most : ℕ) (one : List ℕ → Option (A × List ℕ)) → TakesFew most one → (count : ℕ) → TakesFew (most * count) (many_at one count)
-unfolding many_at
-many_few most one few zero bytes r e = omega (arith, left_of ([], bytes) r e)
-many_few most one few (suc count) bytes r e =
-    let first = bind_some (one bytes) _ r e in
-    let others = bind_some (many_at one count first.0.1) _ r first.2 in
-    omega (arith, few bytes first.0 first.1, many_few most one few count first.0.1 others.0 others.1, left_of _ r others.2, mul-suc most count)
 
 -- where one of them passes a test, with which it takes less, all take less
 many_less : {A : Type 0} (most less : ℕ) (one : List ℕ → Option (A × List ℕ)) (test : A → Bool) → TakesFew most one
@@ -152,20 +109,11 @@ many_less {A} most less one test few fewer (suc count) bytes r e some =
           omega (arith, few bytes first.0 first.1, many_less most less one test few fewer count first.0.1 others.0 others.1 later, left, mul-suc most count)
     ]
 
--- a count of two bytes
-count_few : (limit : ℕ) (bytes : List ℕ) (r : ℕ × List ℕ) → count_at w16 limit bytes ≡ Some r → (r.0 ≤ limit) × (length bytes ≤ 2 + length r.1)
-unfolding count_at
-count_few limit bytes r e =
-    let count = bind_some (big_endian_at w16 bytes) _ r e in
-    let few = if_false (ltb limit count.0.0) (Some count.0) r count.2 in
-    let same : count.0 ≡ r = same_Some count.0 r few.1 in
-    (subst (λ (x : ℕ × List ℕ). x.0 ≤ limit) same (ltb-false limit count.0.0 few.0), subst (λ (x : ℕ × List ℕ). length bytes ≤ 2 + length x.1) same (number_few bytes count.0 count.1))
-
 digest_list_few : (limit : ℕ) (bytes : List ℕ) (r : List Digest × List ℕ) → digest_list_at limit bytes ≡ Some r → length bytes ≤ 2 + 90 * limit + length r.1
 unfolding digest_list_at
 digest_list_few limit bytes r e =
     let count = bind_some (count_at w16 limit bytes) _ r e in
-    let few = count_few limit bytes count.0 count.1 in
+    let few = counted_few limit bytes count.0 count.1 in
     omega (arith, few.0, few.1, digests_few count.0.0 count.0.1 r count.2)
 
 -- ---- claims
@@ -179,12 +127,8 @@ accused_few form bytes r e =
     let index = bind_some (big_endian_at w16 axis.0.1) _ r axis.2 in
     omega (arith, byte_few bytes byte.0 byte.1, axis_few byte.0.1 axis.0 same.1, number_few axis.0.1 index.0 index.1, left_of _ r index.2)
 
-claim_cells_few : (bytes : List ℕ) (r : List Message × List ℕ) → claim_cells_at bytes ≡ Some r → length bytes ≤ 726018 + length r.1
-unfolding list_at
-claim_cells_few bytes r e =
-    let count = bind_some (count_at w16 512 bytes) _ r e in
-    let few = count_few 512 bytes count.0 count.1 in
-    omega (arith, few.0, few.1, many_few 1418 message_front message_front_few count.0.0 count.0.1 r count.2)
+claim_cells_few : TakesFew 726018 claim_cells_at
+claim_cells_few = list_few 1418 512 message_front message_front_few
 
 plain_few : (payload : List ℕ) (claim : ClaimParts) → plain_at payload ≡ Some claim → length payload ≤ 726022
 unfolding plain_at
@@ -197,7 +141,7 @@ plain_few payload claim e =
 -- a cell of a claim with a set takes less where the set shows it
 cell_path_few : (along : Bool) (bytes : List ℕ) (r : List Digest × List ℕ) → cell_path_at along bytes ≡ Some r → length bytes ≤ cond along 0 901 + length r.1
 cell_path_few true bytes r e = omega (arith, left_of ([], bytes) r e)
-cell_path_few false bytes r e = path_few bytes r e
+cell_path_few false bytes r e = path_few 10 bytes r e
 
 set_cell_read : (axis : Axis) (index : ℕ) (bytes : List ℕ) (r : Message × List ℕ) → set_cell_at axis index bytes ≡ Some r
     → length bytes ≤ 515 + cond (is_along axis r.0) 0 901 + length r.1
@@ -231,7 +175,7 @@ set_cells_few : (axis : Axis) (index : ℕ) (bytes : List ℕ) (r : List Message
 unfolding list_at
 set_cells_few axis index bytes r e some =
     let count = bind_some (count_at w16 512 bytes) _ r e in
-    let few = count_few 512 bytes count.0 count.1 in
+    let few = counted_few 512 bytes count.0 count.1 in
     omega (
       arith,
       few.0,

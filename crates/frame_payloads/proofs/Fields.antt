@@ -10,6 +10,7 @@ pub mod Many
 pub mod Texts
 pub mod Lists
 pub mod Lengths
+pub mod ReadLengths
 pub mod Short
 pub mod Hashes
 pub mod DigestLists
