@@ -2,9 +2,8 @@
 
 ghost use Rattle.std.specs.Prelude.{◌<◌, ◌^◌, IfSome};
 ghost use Rattle.std.specs.List.{AllByRecursion};
-ghost use Rattle.namespace_id.specs.Bytes.{AreBytes, IsString};
+ghost use Rattle.namespace_id.specs.Bytes.{AreBytes};
 ghost use Rattle.namespace_id.specs.Cells.{IsCell};
-ghost use Rattle.share_split.specs.Blobs.{IsNamed, signer_size};
 ghost use Rattle.square_layout.specs.Blocks.{IsBlock};
 ghost use Rattle.frame_payloads.specs.kinds.Commit.{IsRowSent, IsCommitSent};
 ghost use Rattle.frame_payloads.specs.kinds.Refusal.{IsRefusal};
@@ -16,7 +15,7 @@ use axis_roots::{answer_law, claim_law, message_law};
 use blob_commit::{CommitProof, CommitRow, RootedMessage, rooted_law, row_law};
 use frame_payloads::{Refusal, hash_law};
 use namespace_id::{Cell, bytes_law, digests_law, namespace_law, shares_law};
-use share_split::{Blob, SIGNER_SIZE, Unit};
+use share_split::{Unit, blobs_law};
 use square_layout::Block;
 
 /// Says that a cell has numbers of two bytes. It changes nothing.
@@ -33,33 +32,6 @@ fn units_law(units: &[Unit])
 {
     for unit in units {
         bytes_law(&unit.bytes);
-    }
-}
-
-/// Says that a signer, if there is one, has 20 bytes. It changes nothing.
-fn signer_law(signer: &Option<[u8; SIGNER_SIZE]>)
-    ensures { IfSome signer.now (IsString signer_size) }
-{
-    if let Some(signer) = signer {
-        bytes_law(signer);
-    }
-}
-
-/// Says that a blob has a namespace, bytes, and a signer of 20 bytes, if it has one. It changes nothing.
-fn blob_law(blob: &Blob)
-    ensures { IsNamed blob.now }
-{
-    namespace_law(&blob.namespace);
-    bytes_law(&blob.bytes);
-    signer_law(&blob.signer);
-}
-
-/// Says so of each blob of a slice. It changes nothing.
-fn blobs_law(blobs: &[Blob])
-    ensures { AllByRecursion IsNamed blobs.now }
-{
-    for blob in blobs {
-        blob_law(blob);
     }
 }
 

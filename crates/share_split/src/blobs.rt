@@ -1,12 +1,16 @@
 //! The shares of a blob.
 
-ghost use Rattle.std.specs.Prelude.{◌≡◌, ◌+◌, ◌^◌, ◌≤◌, ◌<◌, ◌++◌, ◌∷◌, [], ◌↔◌, length, take, drop, replicate, vec_len, vec_capacity, OnOk, OnErr, IsErrOf, is_some};
+ghost use Rattle.std.specs.Prelude.{◌≡◌, ◌+◌, ◌^◌, ◌≤◌, ◌<◌, ◌++◌, ◌∷◌, [], ◌↔◌, length, take, drop, replicate, vec_len, vec_capacity, OnOk, OnErr, IsErrOf, IfSome, is_some};
+ghost use Rattle.std.specs.List.{AllByRecursion};
 ghost use Rattle.std.specs.Option.{option_copied};
 ghost use Rattle.namespace_id.specs.Answers.{HasCapacity};
-ghost use Rattle.share_split.specs.Blobs.{first_blob_content, later_content, max_sequence_length, info, version_of, signer_bytes, sequence_share, first_share, later_share, later_shares, count_from, share_count, blob_shares_of};
+ghost use Rattle.namespace_id.specs.Bytes.{IsString};
+ghost use Rattle.share_split.specs.Blobs.{IsNamed, signer_size, first_blob_content, later_content, max_sequence_length, info, version_of, signer_bytes, sequence_share, first_share, later_share, later_shares, count_from, share_count, blob_shares_of};
 ghost use Rattle.share_split.specs.Joined.{padding_of, padding_share};
 
-use namespace_id::{NAMESPACE_SIZE, Namespace, SHARE_SIZE, Share, write_at};
+use namespace_id::{
+    NAMESPACE_SIZE, Namespace, SHARE_SIZE, Share, bytes_law, namespace_law, write_at,
+};
 use std::marker::Model;
 use thiserror::Error;
 
@@ -80,6 +84,33 @@ impl Model for Blob {
       bytes = b.bytes.items;
       signer = b.signer;
     } };
+}
+
+/// Says that a signer, if there is one, has 20 bytes. It changes nothing.
+fn signer_law(signer: &Option<[u8; SIGNER_SIZE]>)
+    ensures { IfSome signer.now (IsString signer_size) }
+{
+    if let Some(signer) = signer {
+        bytes_law(signer);
+    }
+}
+
+/// Says that a blob has a namespace, bytes, and a signer of 20 bytes, if it has one. It changes nothing.
+fn blob_law(blob: &Blob)
+    ensures { IsNamed blob.now }
+{
+    namespace_law(&blob.namespace);
+    bytes_law(&blob.bytes);
+    signer_law(&blob.signer);
+}
+
+/// Says so of each blob of a slice. It changes nothing.
+pub fn blobs_law(blobs: &[Blob])
+    ensures { AllByRecursion IsNamed blobs.now }
+{
+    for blob in blobs {
+        blob_law(blob);
+    }
 }
 
 /// How many shares so many bytes take, of which the first share and each later one hold at most so

@@ -22,7 +22,8 @@ mod widths;
 
 pub use blobs::{
     Blob, FIRST_CONTENT, FIRST_SIGNED_CONTENT, LATER_CONTENT, LENGTH_PLACE, MAX_SEQUENCE_LENGTH,
-    SIGNER_SIZE, SplitError, blob_share_count, blob_shares, padding_share, signed_padding_share,
+    SIGNER_SIZE, SplitError, blob_share_count, blob_shares, blobs_law, padding_share,
+    signed_padding_share,
 };
 pub use joining::{JoinError, join_blobs, join_laws, join_units};
 pub use laws::{blob_laws, refusal_laws, size_laws};

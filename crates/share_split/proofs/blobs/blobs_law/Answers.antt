@@ -2,7 +2,7 @@ use Rattle.std.proofs.Common.{subst, arith}
 use Rattle.std.proofs.lemmas.List.Elements.{All-more}
 use Rattle.share_split.specs.Blobs.{NamedBytes, IsNamed}
 use Rattle.namespace_id.proofs.ElementLemmas.{all_passed}
-use Rattle.da_wire.proofs.bounds.blobs_law.Goals as goal
+use Rattle.share_split.proofs.blobs.blobs_law.Goals as goal
 
 pub loop-blob-preserved : goal.loop-blob-preserved
 loop-blob-preserved c =

@@ -1,7 +1,7 @@
 use Rattle.std.proofs.Common.{take}
 use Rattle.std.specs.List.{All}
 use Rattle.share_split.specs.Blobs.{IsNamed}
-use Rattle.tx_list.proofs.bounds.blobs_law.Given as goal
+use Rattle.share_split.proofs.blobs.blobs_law.Given as goal
 
 -- so are those before this one
 abbrev pub invariant-loop-blob : goal.invariant-loop-blob
