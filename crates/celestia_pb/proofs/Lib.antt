@@ -10,8 +10,6 @@ pub mod EntryListLemmas
 pub mod EntryLemmas
 -- the loop that counts digests
 pub mod CountLoops
--- the loop that appends digests
-pub mod PutLoops
 -- lenient reading of digests
 pub mod CommonLemmas
 -- numbers and messages in messages

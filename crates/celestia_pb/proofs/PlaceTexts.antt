@@ -4,7 +4,14 @@ use Rattle.namespace_id.specs.declared.cells.Axis.{Axis}
 use Rattle.proto_fields.specs.Spelled.{bytes_field}
 use Rattle.axis_roots.specs.declared.message.messages.Message.{Message}
 use Rattle.celestia_pb.specs.BefpEntries.{befp_place, places_text, shown_at, behind_place, places_of}
-use Rattle.celestia_pb.proofs.PutLoops.{IsPut}
+
+-- this is there, and no less capacity than before
+abbrev pub IsPut : (first out : Vec ℕ Global) (all : List ℕ) (total : ℕ) → Type 0
+IsPut first out all total = record {
+  appended : out.items ≡ all;
+  len : vec_len out ≡ total;
+  capacity : vec_capacity first ≤ vec_capacity out;
+}
 
 module _ (axis : Axis) where
   -- no place
