@@ -1,5 +1,5 @@
 -- What commands that answer requests over a square write, and how they end.
-use Rattle.std.proofs.Common.{◌≡◌, ◌∙◌, ℕ, Bool, List, [], ◌∷◌, ◌++◌, None, Some, IsSome, Result, Ok, inl, inr, refl, sym, ap, subst, arith, append_assoc, append-nil, ◌↔◌, ◌⊎◌}
+use Rattle.std.proofs.Common.{◌≡◌, ◌∙◌, ℕ, Bool, List, [], ◌∷◌, ◌++◌, None, Some, IsSome, inl, inr, refl, sym, ap, subst, arith, append_assoc, append-nil, ◌↔◌, ◌⊎◌}
 use Rattle.std.specs.declared.option.Option.{Option}
 use Rattle.std.specs.Prelude.{MatchOption}
 use Rattle.std.specs.List.{AllByRecursion}
@@ -18,16 +18,15 @@ use Rattle.da_status.specs.declared.status.Status.TheVariants.{Done, Usage, Pick
 use Rattle.da_status.specs.declared.status.Asked.TheVariants.{NoHeader, At}
 use Rattle.da_status.specs.Statuses.{status_kind}
 use Rattle.da_serving.specs.Choices.{FramesOf, HasFrame}
-use Rattle.da_status.specs.Judging.{Judged}
-use Rattle.da_status.specs.Outcome.{Relation, Refuses, OutputsFront, Ends, EndsAtOnce}
+use Rattle.da_status.specs.Outcome.{Relation, Refuses, OutputsFront, Ends}
 use Rattle.da_files.specs.Contents.{square_file}
 use Rattle.da_files.specs.Forms.{Over}
-use Rattle.da_files.specs.Frames.{error_of, square_in, Writes}
+use Rattle.da_files.specs.Frames.{square_in, Writes}
 use Rattle.da_files.specs.Requests.{failing_from}
 use Rattle.da_serving.specs.Serving.{requests_file, GivesFrames, Serves}
-use Rattle.da_status.proofs.EndLemmas.{IsAnswer, status_answers, ends_in_fault, ends_output, ends_within, once_as}
+use Rattle.da_status.proofs.EndLemmas.{IsAnswer, status_answers, ends_in_fault, ends_output, ends_within}
 use Rattle.da_files.proofs.FileLemmas.{some_there}
-use Rattle.da_files.proofs.FormLemmas.{over_each, single_is}
+use Rattle.da_files.proofs.FormLemmas.{over_each}
 use Rattle.da_files.proofs.SpelledLemmas.{spelling_some}
 use Rattle.da_io.proofs.PieceLemmas.{part_of_front, part_of_back}
 use Rattle.da_serving.proofs.ChoiceLemmas.{frames_more, frames_front}
@@ -203,10 +202,3 @@ over_answers test Allows asked files w status h =
     let requests = asked (requests_file files) in
     over_each (λ square. Serves square (test square) (Allows square) requests) (square_in (square_file files)) w status (IsAnswer (status_kind status))
     (λ square. serves_answers square (test square) (Allows square) requests w status) h
-
--- a command over one file that was read as a value ends by the answer to the value
-pub once_single : {A : Type 0} (Answer : A → Relation) (read : Result A ℕ) (value : A) (old new : Option (List ℕ)) (before now : ℕ) (Same : Type 0) (status : Status)
-    → read ≡ Ok value → EndsAtOnce (Answer value) old new before now Same status
-    → EndsAtOnce (Judged (error_of read ∷ []) (Over read Answer)) old new before now Same status
-once_single Answer read value old new before now Same status is once =
-    once_as (Answer value) (Judged (error_of read ∷ []) (Over read Answer)) old new before now Same status (single_is Answer read value is) once

@@ -135,7 +135,7 @@ fn find<O: Sink>(alloc: Global, square: &Square, commitment: &[u8; 32], out: &mu
 }
 
 /// Answers where in the square in SQUARE the blobs stand that have a commitment.
-#[tactic(auto, using(da_files::proofs::FormLemmas::refused_once, crate::proofs::ServingLemmas::once_single))]
+#[tactic(auto, using(da_files::proofs::FormLemmas::refused_once, da_files::proofs::FormLemmas::once_single))]
 pub fn execute<O: Sink>(
     alloc: Global,
     files: &[Vec<u8>],

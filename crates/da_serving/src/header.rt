@@ -47,7 +47,7 @@ fn give_header<O: Sink>(alloc: Global, square: &Square, out: &mut O) -> Status
 }
 
 /// Computes the header of the square in SQUARE.
-#[tactic(auto, using(da_files::proofs::FormLemmas::refused_once, crate::proofs::ServingLemmas::once_single))]
+#[tactic(auto, using(da_files::proofs::FormLemmas::refused_once, da_files::proofs::FormLemmas::once_single))]
 pub fn execute<O: Sink>(alloc: Global, files: &[Vec<u8>], out: &mut O) -> Status
     ensures { EndsAtOnce (Judged (single_judged square_in (contents_of files.now))
         (HeaderOf (contents_of files.now))) (O.taken out.old) (O.taken out.new) (O.faults out.old)

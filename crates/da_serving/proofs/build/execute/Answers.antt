@@ -1,5 +1,5 @@
 use Rattle.da_serving.specs.Build.{BuildsEither}
-use Rattle.da_serving.proofs.ServingLemmas.{once_single}
+use Rattle.da_files.proofs.FormLemmas.{once_single}
 use Rattle.da_serving.proofs.build.execute.Goals as goal
 
 -- the file is the block that was read

@@ -1,5 +1,5 @@
 use Rattle.da_serving.specs.Commit.{CommitsEither}
-use Rattle.da_serving.proofs.ServingLemmas.{once_single}
+use Rattle.da_files.proofs.FormLemmas.{once_single}
 use Rattle.da_serving.proofs.commit.execute.Goals as goal
 
 -- the file is the block that was read

@@ -1,6 +1,6 @@
 use Rattle.square_layout.specs.Blocks.{SquareShares}
 use Rattle.da_serving.specs.Prove.{ProvesRange}
-use Rattle.da_serving.proofs.ServingLemmas.{once_single}
+use Rattle.da_files.proofs.FormLemmas.{once_single}
 use Rattle.da_serving.proofs.prove.range.Goals as goal
 
 -- the file is the square that was read

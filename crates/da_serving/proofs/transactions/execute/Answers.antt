@@ -1,5 +1,5 @@
 use Rattle.da_serving.specs.Transactions.{Unlays}
-use Rattle.da_serving.proofs.ServingLemmas.{once_single}
+use Rattle.da_files.proofs.FormLemmas.{once_single}
 use Rattle.da_serving.proofs.transactions.execute.Goals as goal
 
 -- the file is the square that was read
