@@ -1,4 +1,4 @@
-use Rattle.std.proofs.Common.{◌≡◌, ◌∙◌, None, subst}
+use Rattle.std.proofs.Common.{◌≡◌, ◌∙◌, None, ap, subst}
 use Rattle.da_net.specs.Networks.{handed, IsRun}
 use Rattle.da_net.specs.Nets.{NetParts, network_of, alarm_at, HasState}
 use Rattle.da_net.specs.Seats.{pool_items}
