@@ -8,6 +8,8 @@ pub mod DigestLemmas
 pub mod EntryListLemmas
 -- where digests lie
 pub mod EntryLemmas
+-- loops that read values
+pub mod ValueLoops
 -- the loop that counts digests
 pub mod CountLoops
 -- lenient reading of digests

@@ -1,5 +1,8 @@
-use Rattle.std.proofs.Common.{◌∙◌, ◌++◌, ◌∷◌, [], List, ℕ, sym, ap}
-use Rattle.celestia_pb.proofs.AuntLoops.{gathering_begins, gathering_stops, gathering_ends, gathering_refuses, gathering_goes}
+use Rattle.std.proofs.Common.{◌∙◌, ◌+◌, ◌-◌, ◌++◌, ◌∷◌, [], List, ℕ, length, sym, ap}
+use Rattle.celestia_pb.specs.Aunts.{aunts_at}
+use Rattle.celestia_pb.proofs.AuntLemmas.{aunts_at-none, aunts_at-end, aunts_at-wrong}
+use Rattle.celestia_pb.proofs.ValueLoops.{reading_stops, reading_ends, reading_refuses}
+use Rattle.celestia_pb.proofs.AuntLoops.{gathering_begins, gathering_goes}
 use Rattle.celestia_pb.proofs.aunts.aunts_at.Goals as goal
 
 -- all is left
@@ -9,14 +12,13 @@ loop-count-init c = gathering_begins c.args.number 11 c.args.bytes.now c.new-up.
 -- none is there
 pub returns-then-not-begins_part-clause-value : goal.returns-then-not-begins_part-clause-value
 returns-then-not-begins_part-clause-value c =
-    gathering_stops c.args.number 11 c.args.bytes.now c.loop-count.up c.loop-count.count c.loop-count.rest.now c.loop-count.invariant
-    (sym c.begins_part.ensures ∙ c.if-not-begins_part.true)
+    reading_stops (aunts_at c.args.number) _ _ _ _ _ c.loop-count.invariant.all (aunts_at-end c.args.number (11 - c.loop-count.count) c.loop-count.rest.now (sym c.begins_part.ensures ∙ c.if-not-begins_part.true))
 
 -- one is wrong
 pub returns-in_default-clause-value : goal.returns-in_default-clause-value
 returns-in_default-clause-value c =
-    gathering_refuses c.args.number 11 c.args.bytes.now c.loop-count.up c.loop-count.count c.loop-count.rest.now c.loop-count.invariant
-    c.loop-count-test.true (sym c.begins_part.ensures ∙ c.if-not-begins_part.false) c.in_default.ensures.value
+    reading_refuses (aunts_at c.args.number) _ _ _ _ _ c.loop-count.invariant.all c.loop-count-test.true (length c.loop-count.rest.now)
+    (aunts_at-wrong c.args.number (11 - (c.loop-count.count + 1)) c.loop-count.rest.now (sym c.begins_part.ensures ∙ c.if-not-begins_part.false) c.in_default.ensures.value)
 
 -- one more is gathered
 pub loop-count-preserved : goal.loop-count-preserved
@@ -27,6 +29,4 @@ loop-count-preserved c =
 
 -- no more may be there
 pub returns-clause-value : goal.returns-clause-value
-returns-clause-value c =
-    gathering_ends c.args.number 11 c.args.bytes.now c.loop-count.up c.loop-count.count c.loop-count.rest.now c.loop-count.invariant
-    c.loop-count-test.false
+returns-clause-value c = reading_ends (aunts_at c.args.number) _ _ _ _ _ c.loop-count.invariant.all c.loop-count-test.false (aunts_at-none c.args.number c.loop-count.rest.now)
