@@ -30,8 +30,8 @@ use Rattle.celestia_pb.specs.declared.befp.Outline.{Outline}
 use Rattle.celestia_pb.specs.Reading.{then_read, or_left, with_offset}
 use Rattle.celestia_pb.specs.Messages.{number_left}
 use Rattle.celestia_pb.specs.Samples.{axis_number}
-use Rattle.celestia_pb.specs.BefpEntries.{axis_field, places_text, places_of, places_at, none_seen, cells_of}
-use Rattle.celestia_pb.specs.Befp.{has_no_set, claim_has_message, befp_text, is_index, accused_end, accused_kind, accused_left, if_accused, outline_of, outline_at, has_places, claim_of_places, befp_end, befp_axis, places_by, befp_places, is_height, befp_height, if_this_hash, hash_matches, befp_left, befp_value}
+use Rattle.celestia_pb.specs.BefpEntries.{axis_field, places_text, places_of, places_at, none_seen, cells_of, seen_read}
+use Rattle.celestia_pb.specs.Befp.{has_no_set, claim_has_message, befp_text, is_index, accused_end, accused_kind, accused_left, if_accused, outline_of, outline_at, has_places, claim_of_places, claim_read as claim_seen, befp_end, befp_axis, places_by, befp_places, is_height, befp_height, if_this_hash, hash_matches, befp_left, befp_value}
 use Rattle.celestia_pb.specs.BefpLaws.{ClaimHasMessage, IsBefp}
 use Rattle.celestia_pb.proofs.Steps.{same_ok, cond_ok, then_ok, placed_ok}
 use Rattle.celestia_pb.proofs.Fronts.{begins_own}
@@ -387,3 +387,33 @@ befp_back hash height bytes claim fits e = parts_back hash height bytes claim fi
 pub read_is_befp : (hash : List ℕ) (height : ℕ) (bytes : List ℕ) (claim : ClaimParts) → AreBytes bytes → befp_value hash height bytes ≡ Ok claim
     → IsBefp hash height bytes claim
 read_is_befp hash height bytes claim fits e = parts_spelled hash height bytes claim (befp_back hash height bytes claim fits e)
+
+-- ---- the places, read step by step
+
+-- one is wrong
+pub place_wrong : (told : Bool) (read : Result ((List (Option Sample) × Seen) × List ℕ) ℕ) (left : ℕ) → seen_read read ≡ Err left
+    → then_read (befp_axis told) read ≡ Err left
+place_wrong told (Ok read) left e = absurd cc
+place_wrong told (Err other) left e =
+    let both : ◌≡◌ {A = Result (Seen × List ℕ) ℕ} (Err other) (Err left) = e in
+    let same : other ≡ left = cc in
+    ap (λ (n : ℕ). Err n) same
+
+-- the fields behind them are wrong
+pub axis_wrong : (told : Bool) (read : Result ((List (Option Sample) × Seen) × List ℕ) ℕ) (seen : Seen × List ℕ) (left : ℕ)
+    → seen_read read ≡ Ok seen → accused_left seen.0.place seen.1 ≡ Err left → then_read (befp_axis told) read ≡ Err left
+axis_wrong told (Ok read) seen left e wrong =
+    let same : (read.0.1, read.1) ≡ seen = same_ok (read.0.1, read.1) seen e in
+    ap (then_read (befp_end told read.0)) (ap (λ (s : Seen × List ℕ). accused_left s.0.place s.1) same ∙ wrong)
+axis_wrong told (Err other) seen left e wrong = absurd cc
+
+-- all were read
+pub places_end : (told : Bool) (read : Result ((List (Option Sample) × Seen) × List ℕ) ℕ) (seen : Seen × List ℕ) (accused : Accused × List ℕ) (all : Bool)
+    → seen_read read ≡ Ok seen → accused_left seen.0.place seen.1 ≡ Ok accused → (told && has_places seen.0.place seen.0.shares) ≡ all
+    → then_read (befp_axis told) read ≡ cond all (Ok (claim_seen accused.0 read)) (Err (length accused.1))
+places_end told (Ok read) seen accused all e right test =
+    let same : (read.0.1, read.1) ≡ seen = same_ok (read.0.1, read.1) seen e in
+    let axis : accused_left read.0.1.place read.1 ≡ Ok accused = ap (λ (s : Seen × List ℕ). accused_left s.0.place s.1) same ∙ right in
+    let tested : (told && has_places read.0.1.place read.0.1.shares) ≡ all = ap (λ (s : Seen × List ℕ). told && has_places s.0.place s.0.shares) same ∙ test in
+    ap (then_read (befp_end told read.0)) axis ∙ ap (λ (b : Bool). cond b (Ok (claim_of_places accused.0 read.0.0)) (Err (length accused.1))) tested
+places_end told (Err other) seen accused all e right test = absurd cc

@@ -1,10 +1,10 @@
 //! Fraud claims as messages BadEncoding.
 
 ghost use Rattle.std.specs.Prelude.{◌≡◌, ◌==◌, ◌&&◌, ◌↔◌, ℕ, ◌≤◌, true, Ok, Err, IfOk, IsErrOf};
-ghost use Rattle.celestia_pb.specs.Reading.{ReadsMessage};
+ghost use Rattle.celestia_pb.specs.Reading.{ReadsMessage, then_read};
 ghost use Rattle.celestia_pb.specs.Messages.{number_left};
 ghost use Rattle.celestia_pb.specs.BefpEntries.{has_read};
-ghost use Rattle.celestia_pb.specs.Befp.{is_index, accused_left, outline_at, has_places, claim_read, places_by, is_height, hash_matches, befp_left, befp_value};
+ghost use Rattle.celestia_pb.specs.Befp.{is_index, accused_left, outline_at, has_places, claim_read, places_by, befp_axis, is_height, hash_matches, befp_left, befp_value};
 ghost use Rattle.celestia_pb.specs.BefpLaws.{BefpIsRead, ReadIsBefp, BefpIsCommon, EntryIsCommon, FlaggedIsCommon};
 
 use crate::befp_entries::{Accused, Seen, axis_in};
@@ -88,11 +88,18 @@ fn has_places(seen: Seen) -> bool
     is_width(k) && seen.place == 2 * k && seen.shares == k
 }
 
-/// Whether the hash and this height were there, and these places.
-fn is_all(told: bool, number: u64, height: u64, seen: Seen) -> bool
-    ensures { result ≡ ((told && (number == height)) && has_places seen.place seen.shares) }
+/// Whether the hash and this height were there.
+fn is_told(told: bool, number: u64, height: u64) -> bool
+    ensures { result ≡ (told && (number == height)) }
 {
-    told && number == height && has_places(seen)
+    told && number == height
+}
+
+/// Whether all is told, and these are the places.
+fn is_all(told: bool, seen: Seen) -> bool
+    ensures { result ≡ (told && has_places seen.place seen.shares) }
+{
+    told && has_places(seen)
 }
 
 /// Whether this hash is at the front, and the bytes after it; where another one is, how many bytes are left.
@@ -122,6 +129,21 @@ fn height_at(height: u64, bytes: &[u8]) -> Result<(u64, &[u8]), usize>
     Ok((number, rest))
 }
 
+/// The axis that a message accuses, and what was looked up of it, where these are the bytes from its places on; where a field is
+/// wrong, how many bytes are left from it on.
+fn places_in(told: bool, bytes: &[u8]) -> Result<(Accused, Outline), usize>
+    ensures claim { ReadsMessage (λ x. claim_read x.0 (places_by x.1 bytes.now)) result (then_read (befp_axis told) (places_by (outline_at bytes.now) bytes.now)) }
+    ensures read { IfOk result (λ x. has_read (places_by x.1 bytes.now) ≡ true) }
+{
+    let outline = outline_at(bytes);
+    let (seen, after) = look_along(outline.accused, outline.most, bytes)?;
+    let (accused, rest) = accused_at(seen.place, after)?;
+    if !is_all(told, seen) {
+        return Err(rest.len());
+    }
+    Ok((accused, outline))
+}
+
 /// The axis that a message accuses, what was looked up of it, and the bytes from its places on; where a field is wrong, how many
 /// bytes are left from it on.
 fn plan_in<'a>(
@@ -134,12 +156,7 @@ fn plan_in<'a>(
 {
     let (told, behind) = hash_at(hash, bytes)?;
     let (number, places) = height_at(height, behind)?;
-    let outline = outline_at(places);
-    let (seen, after) = look_along(outline.accused, outline.most, places)?;
-    let (accused, rest) = accused_at(seen.place, after)?;
-    if !is_all(told, number, height, seen) {
-        return Err(rest.len());
-    }
+    let (accused, outline) = places_in(is_told(told, number, height), places)?;
     Ok((accused, outline, places))
 }
 
