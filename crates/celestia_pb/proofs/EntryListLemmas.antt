@@ -1,11 +1,11 @@
 -- Where values of one size lie: each so many bytes behind the one before.
-use Rattle.std.proofs.Common.{◌≡◌, ◌∙◌, ℕ, zero, suc, ◌+◌, ◌*◌, ◌<◌, ◌≤◌, List, [], ◌∷◌, ◌++◌, length, drop, refl, sym, ap, arith}
+use Rattle.std.proofs.Common.{◌≡◌, ◌∙◌, ℕ, zero, suc, ◌+◌, ◌*◌, ◌<◌, ◌≤◌, List, [], ◌∷◌, ◌++◌, length, drop, refl, sym, ap, ap₂, arith}
 use Rattle.std.proofs.lemmas.List.{drop-drop, length-drop}
 use Rattle.std.proofs.lemmas.Nat.{mul-le}
 use Rattle.celestia_pb.specs.EntryLists.{entries}
 
 -- one more is one size more
-size_more : (size count : ℕ) → size * count + size ≡ size * (count + 1)
+pub size_more : (size count : ℕ) → size * count + size ≡ size * (count + 1)
 size_more size count = search arith
 
 size_first : (size count : ℕ) → size + size * count ≡ size * suc count
@@ -56,3 +56,9 @@ module _ {A : Type 0} (value : List ℕ → A) (size : ℕ) where
       ∙ ap (λ (l : List A). value bytes ∷ l) (entries-more count (drop size bytes))
       ∙ ap (λ (l : List ℕ). value bytes ∷ (entries value size count (drop size bytes) ++ value l ∷ [])) (drop_first size count bytes)
       ∙ ap (λ (l : List A). l ++ value (drop (size * suc count) bytes) ∷ []) (sym (entries-next count bytes))
+
+  -- one more was put behind so many
+  pub entries_taken : (count : ℕ) (bytes rest : List ℕ) (before now : List A) (x : A) → before ≡ entries value size count bytes → rest ≡ drop (size * count) bytes
+      → x ≡ value rest → now ≡ before ++ x ∷ [] → now ≡ entries value size (count + 1) bytes
+  entries_taken count bytes rest before now x taken left is put =
+      put ∙ ap₂ (λ (l : List A) (y : A). l ++ y ∷ []) taken (is ∙ ap value left) ∙ sym (entries-more count bytes)

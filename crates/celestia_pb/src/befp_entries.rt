@@ -9,7 +9,7 @@ ghost use Rattle.celestia_pb.specs.Messages.{number_left, optional_message};
 ghost use Rattle.celestia_pb.specs.BefpEntries.{is_mark, is_proof, proof_left, axis_field, start_wanted, data_at, entry_left, accused_cell, seen_place, step_left};
 
 use crate::digests::count_digests;
-use crate::inclusions::{first_place, is_sum, path_in, start_at, stop_at};
+use crate::inclusions::{Numbers, first_place, is_sum, path_in, start_at, stop_at};
 use crate::messages::{number_at, part_at};
 use crate::sample::{Sample, place_on, share_at};
 use axis_roots::cell_on;
@@ -68,14 +68,6 @@ fn mark_at(mark: Option<u64>, bytes: &[u8]) -> Result<(u64, &[u8]), usize>
         return Err(bytes.len());
     }
     Ok((flag, rest))
-}
-
-/// The numbers of a proof.
-#[derive(Clone, Copy)]
-struct Numbers {
-    start: u64,
-    stop: u64,
-    flag: u64,
 }
 
 /// Whether these are the numbers of a proof of the leaf at a place with this flag, and nothing is left.

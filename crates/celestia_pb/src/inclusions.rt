@@ -93,10 +93,10 @@ pub(crate) fn flag_at(bytes: &[u8]) -> Result<(u64, &[u8]), usize>
 
 /// The numbers of a proof.
 #[derive(Clone, Copy)]
-struct Numbers {
-    start: u64,
-    stop: u64,
-    flag: u64,
+pub(crate) struct Numbers {
+    pub(crate) start: u64,
+    pub(crate) stop: u64,
+    pub(crate) flag: u64,
 }
 
 /// Whether these are the numbers of a proof of so many leaves from a place on, and nothing is left.

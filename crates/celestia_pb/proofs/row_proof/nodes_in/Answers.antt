@@ -1,7 +1,6 @@
-use Rattle.std.proofs.Common.{◌∙◌, ◌++◌, ◌∷◌, [], List, drop, length, refl, sym, ap, ap₂, arith}
-use Rattle.namespace_id.specs.declared.digests.Digest.{Digest}
+use Rattle.std.proofs.Common.{◌∙◌, drop, length, refl, sym, ap, arith}
 use Rattle.celestia_pb.specs.Digests.{entry_digest}
-use Rattle.celestia_pb.proofs.EntryListLemmas.{drop_more, entries-more, entries-none, length-entries}
+use Rattle.celestia_pb.proofs.EntryListLemmas.{drop_more, entries_taken, entries-none, length-entries}
 use Rattle.celestia_pb.proofs.row_proof.nodes_in.Goals as goal
 
 -- none is taken
@@ -18,8 +17,6 @@ push-requires c = omega (arith, ap length c.loop.invariant.items, length-entries
 -- one more is taken
 pub loop-preserved : goal.loop-preserved
 loop-preserved c = record {
-  items = c.push.ensures
-      ∙ ap₂ (λ (l : List Digest) (d : Digest). l ++ d ∷ []) c.loop.invariant.items (c.entry_digest.ensures ∙ ap entry_digest c.loop.invariant.rest)
-      ∙ sym (entries-more entry_digest 92 c.loop.counter c.args.bytes.now);
+  items = entries_taken entry_digest 92 c.loop.counter c.args.bytes.now _ _ _ _ c.loop.invariant.items c.loop.invariant.rest c.entry_digest.ensures c.push.ensures;
   rest = c.split_at.ensures.back ∙ ap (drop 92) c.loop.invariant.rest ∙ drop_more 92 c.loop.counter c.args.bytes.now;
 }

@@ -1,7 +1,6 @@
-use Rattle.std.proofs.Common.{◌≡◌, ◌∙◌, ℕ, ◌+◌, ◌*◌, ◌++◌, ◌∷◌, [], List, drop, sym, ap, ap₂, arith}
-use Rattle.namespace_id.specs.declared.shares.Share.{Share}
+use Rattle.std.proofs.Common.{◌≡◌, ◌∙◌, ℕ, ◌+◌, ◌*◌, drop, sym, ap, arith}
 use Rattle.celestia_pb.specs.ShareLists.{share_behind}
-use Rattle.celestia_pb.proofs.EntryListLemmas.{entries-none, entries-more, drop_more, one_left}
+use Rattle.celestia_pb.proofs.EntryListLemmas.{entries-none, entries_taken, drop_more, one_left}
 use Rattle.celestia_pb.proofs.share_lists.shares_behind.Goals as goal
 
 -- none is taken
@@ -23,9 +22,8 @@ share_behind-requires c = one_left (c.args.front + 512) c.loop.counter c.args.co
 -- one more is taken
 pub loop-preserved : goal.loop-preserved
 loop-preserved c = record {
-  items = c.in-Ok.ensures.items
-      ∙ ap₂ (λ (l : List Share) (s : Share). l ++ s ∷ []) c.loop.invariant.items (c.share_behind.ensures ∙ ap (share_behind c.args.front) c.loop.invariant.rest)
-      ∙ sym (entries-more (share_behind c.args.front) (c.args.front + 512) c.loop.counter c.args.bytes.now);
+  items = entries_taken (share_behind c.args.front) (c.args.front + 512) c.loop.counter c.args.bytes.now _ _ _ _ c.loop.invariant.items c.loop.invariant.rest
+      c.share_behind.ensures c.in-Ok.ensures.items;
   len = omega (arith, c.in-Ok.ensures.len, c.loop.invariant.len);
   rest = c.split_at.ensures.back ∙ ap (drop (c.args.front + 512)) c.loop.invariant.rest ∙ drop_more (c.args.front + 512) c.loop.counter c.args.bytes.now;
 }
