@@ -1,8 +1,11 @@
 use Rattle.std.proofs.Common.{◌∙◌, ◌++◌, ◌∷◌, [], refl, sym, subst, true≢false}
+use Rattle.std.specs.Prelude.{Option}
 use Rattle.axis_roots.specs.declared.message.messages.Message.{Message}
+use Rattle.repair_queue.specs.SessionParts.{SessionParts}
+use Rattle.da_net.specs.declared.items.Item.TheVariants as item
 use Rattle.da_net.specs.declared.full.Fed.TheVariants.{On, Ended}
 use Rattle.da_net.specs.Networks.{messages_of}
-use Rattle.da_net.specs.Nodes.{HasSpareClaim, ComesOfFeeding}
+use Rattle.da_net.specs.Nodes.{HasSpareClaim, IsFullNode, ComesOfFeeding}
 use Rattle.da_net.proofs.FullLemmas.{session_of, full_ended, full_refused, taken_on, taken_end, room_end, none_rejects}
 use Rattle.da_net.proofs.full.FullNode.take.Goals as goal
 
@@ -37,10 +40,12 @@ returns-in_default-clause-stands c = λ items is.
 -- the session goes on
 pub returns-in-On-clause-stands : goal.returns-in-On-clause-stands
 returns-in-On-clause-stands c = λ items is.
-    (taken_on c.args.header.now items c.args.message c.args.self.now c.in-Some.session (sym c.is_some.ensures ∙ c.if-is_some.false)
+    subst (λ (s : Option SessionParts). IsFullNode c.args.header.now (items ++ item.Message c.args.message ∷ []) (record { session = s; end = c.args.self.now.end }))
+    (sym c.replace.ensures.after)
+    ((taken_on c.args.header.now items c.args.message c.args.self.now c.in-Some.session (sym c.is_some.ensures ∙ c.if-is_some.false)
     (sym c.in-Some.ensures.value) c.args.room.now c.feed.new.room is c.in-On.session
     (λ fed stands. subst (λ (m : Message). ComesOfFeeding c.args.header.now (fed ++ m ∷ []) c.args.room.now c.feed.new.room (On c.in-On.session)) c.in-Ok.ensures.message
-    (c.in-On.ensures.fed fed stands))).0
+    (c.in-On.ensures.fed fed stands))).0)
 
 pub returns-in-On-clause-room : goal.returns-in-On-clause-room
 returns-in-On-clause-room c = λ not.
